@@ -1,0 +1,5 @@
+pub mod Elements
+pub mod Persistence
+pub mod Growth
+pub mod Uniqueness
+pub mod Tables

@@ -1,0 +1,21 @@
+//! What a text means: which fluents hold when in a trace, which traces are runs, and what is reported of them.
+//!
+//! It stands on the data of texts alone, and never knows of states, trails or positions in a file: each
+//! definition speaks of a whole trace. It carries the law of states, and the laws that states, runs and
+//! reports are unique, each as the contract of a function over the definitions alone (`state_law`,
+//! `unique_law`, `growth_law`).
+#![tactic(auto)]
+
+mod accepted;
+mod cycle;
+mod kinds;
+mod laws;
+mod trace;
+mod verdict;
+
+pub use accepted::Accepted;
+pub use cycle::{Cycle, Group, Pick};
+pub use kinds::Kinds;
+pub use laws::{growth_law, state_law, unique_law};
+pub use trace::Trace;
+pub use verdict::Verdict;
