@@ -1,0 +1,6 @@
+pub mod ProperNames
+pub mod Lines
+pub mod Judging
+pub mod Events
+pub mod Spelling
+pub mod BatchSpelling

@@ -1,0 +1,5 @@
+pub mod Cut
+pub mod Reading
+pub mod ReadText
+pub mod Batch
+pub mod Grammar
