@@ -1,0 +1,11 @@
+pub mod Among
+pub mod Tables
+pub mod Caused
+pub mod States
+pub mod Judging
+pub mod Reports
+pub mod Steps
+pub mod Pieces
+pub mod Loads
+pub mod Tops
+pub mod Takings

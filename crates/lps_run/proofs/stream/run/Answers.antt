@@ -1,0 +1,36 @@
+use Rattle.std.proofs.Common.{◌≡◌, ◌∙◌, ◌≤◌, ◌+◌, ◌^◌, ℕ, List, length, arith, subst, refl, None}
+use Rattle.std.proofs.lemmas.Result.{err_from_is_err_and, IfErr-at_err}
+use Rattle.lps_terms.specs.declared.text.Text.{Text}
+use Rattle.lps_run.specs.Stopping.{Stopped, StopsAtLine}
+use Rattle.lps_run.proofs.Steps.{last_printed}
+use Rattle.lps_run.proofs.Pieces.{keeps_line}
+use Rattle.lps_run.proofs.stream.run.Goals as goal
+
+pub returns-in_err-running-clause-told : goal.returns-in_err-running-clause-told
+returns-in_err-running-clause-told g c = λ before start known told.
+    let p = err_from_is_err_and c.from_residual.result c.from_residual.ensures.1 in
+    rw (p.1, p.2) (c.in_err-running.ensures.told before.left start _ told)
+
+pub returns-in_err-take_stream-clause-limit : goal.returns-in_err-take_stream-clause-limit
+returns-in_err-take_stream-clause-limit g c = λ before known.
+    let p = err_from_is_err_and c.from_residual-in_err-take_stream.result c.from_residual-in_err-take_stream.ensures.1 in
+    rw (p.1, p.2) (c.in_err-take_stream.ensures.limit before known)
+
+pub returns-in_err-take_stream-clause-told : goal.returns-in_err-take_stream-clause-told
+returns-in_err-take_stream-clause-told g c = λ before start known told.
+    let p = err_from_is_err_and c.from_residual-in_err-take_stream.result c.from_residual-in_err-take_stream.ensures.1 in
+    let stopped = c.in_err-take_stream.ensures.told before start known (c.in_ok-running.ensures.told before.left start None told) in
+    rw (p.1, p.2) (subst (λ (t : Text). Stopped t before.left start (g.D.Desk.printed c.take_stream.new.desk) (g.E.Source.stream c.take_stream.new.events) c.in_err-take_stream.field-0.0) c.in_ok-running.ensures.text stopped)
+
+pub returns-clause-limit : goal.returns-clause-limit
+returns-clause-limit g c = λ before known.
+    let k = c.in_ok-take_stream.ensures.limit before known in
+    let kept : length before.left ≤ 2 ^ 36 + length k.after.left = omega (arith, k.limit) in
+    keeps_line before k.after c.print.result _ k.known (λ stop e. IfErr-at_err StopsAtLine e c.print.ensures.kind) kept
+
+pub returns-clause-told : goal.returns-clause-told
+returns-clause-told g c = λ before start known told.
+    let done = c.in_ok-take_stream.ensures.told before start known (c.in_ok-running.ensures.told before.left start None told) in
+    let ended = c.in_ok-take_stream.ensures.ended before known in
+    last_printed c.take_stream.new.self c.args.text before.left start _ _ _ _ ended.0 _ _ c.print.result done (c.take_stream.ensures.text ∙ c.in_ok-running.ensures.text) refl ended.1 ended.2
+    c.print.ensures.all c.print.ensures.front c.print.ensures.cause

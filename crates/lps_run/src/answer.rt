@@ -1,0 +1,84 @@
+ghost use Rattle.std.specs.Prelude.{◌≡◌};
+ghost use Rattle.lps_run.specs.Answers.{answer_to, code_of};
+
+use crate::stop::Stop;
+use lps_terms::{BatchKind, TextRefused};
+use std::fmt;
+
+/// What is wrong with the words of a call.
+#[derive(Clone, Copy, Debug)]
+pub enum UsageKind {
+    /// They are no command.
+    Words,
+}
+
+/// How a call of `lps` ended.
+#[derive(Debug, Drop)]
+pub enum Answer {
+    /// The stream was read to its end, and the whole report is printed.
+    Done,
+    Usage(UsageKind),
+    /// The text is refused, and nothing is printed.
+    TextRefused(TextRefused),
+    /// The first faulty line of the stream; the blocks of the cycles before it are printed.
+    BatchRefused { line: u64, kind: BatchKind },
+    /// More bytes were taken than a stream may have.
+    StreamLimit,
+    TextFault,
+    EventFault,
+    PrintFault,
+    NoMemory,
+}
+
+impl Answer {
+    /// The exit code of the program.
+    pub fn code(&self) -> u8
+        ensures { result ≡ code_of self.now }
+    {
+        match self {
+            Answer::Done => 0,
+            Answer::Usage(_) => 2,
+            Answer::TextRefused(_) => 3,
+            Answer::BatchRefused { line: _, kind: _ } => 4,
+            Answer::StreamLimit => 6,
+            Answer::TextFault => 7,
+            Answer::EventFault => 7,
+            Answer::PrintFault => 7,
+            Answer::NoMemory => 8,
+        }
+    }
+}
+
+/// What the program writes of an answer on standard error.
+impl fmt::Display for Answer {
+    fn fmt<W: fmt::Write>(&self, f: &mut fmt::Formatter<W>) -> fmt::Result {
+        match self {
+            Answer::Done => write!(f, "done"),
+            Answer::Usage(UsageKind::Words) => write!(f, "usage"),
+            Answer::TextRefused(reason) => write!(f, "{reason}"),
+            Answer::BatchRefused { line, kind } => write!(f, "batch line {line}: {kind}"),
+            Answer::StreamLimit => write!(f, "stream limit"),
+            Answer::TextFault => write!(f, "text fault"),
+            Answer::EventFault => write!(f, "event fault"),
+            Answer::PrintFault => write!(f, "print fault"),
+            Answer::NoMemory => write!(f, "no memory"),
+        }
+    }
+}
+
+/// The answer for the end of a run.
+pub fn answer_of(run: Result<(), Stop>) -> Answer
+    ensures { result ≡ answer_to run }
+{
+    match run {
+        Ok(()) => Answer::Done,
+        Err(Stop::NoMemory) => Answer::NoMemory,
+        Err(Stop::Refused { line }) => Answer::BatchRefused {
+            line,
+            kind: BatchKind::BadLine,
+        },
+        Err(Stop::StreamLimit) => Answer::StreamLimit,
+        Err(Stop::EventFault) => Answer::EventFault,
+        Err(Stop::PrintFault) => Answer::PrintFault,
+    }
+}

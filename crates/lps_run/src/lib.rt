@@ -1,0 +1,26 @@
+//! The top call: runs a text over a stream of batches and prints the report.
+//!
+//! It stands on the reader, the definitions and the three traits of the outside, and never knows what a file, a
+//! terminal or a pipe is. Until crates of their own come, the causal update (`causal`), the run from cycle to cycle
+//! (`engine`) and the bytes of the report (`report`) stand here as private modules. It carries the headline: clause
+//! `told` of `lps` says for each answer what was printed, in the words of the definitions, and clauses `usage`,
+//! `limit`, `silent` and `caused` say when each answer comes.
+#![tactic(auto)]
+
+mod answer;
+mod causal;
+mod engine;
+#[cfg(test)]
+mod fakes;
+mod loading;
+mod report;
+mod stop;
+mod stream;
+mod top;
+mod words;
+
+pub use answer::{Answer, UsageKind};
+pub use top::lps;
+
+#[cfg(test)]
+mod tests;

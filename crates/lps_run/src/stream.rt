@@ -1,0 +1,250 @@
+ghost use Rattle.std.specs.Prelude.{◌≡◌, ◌≤◌, ◌+◌, ◌++◌, ◌∷◌, ◌^◌, [], List, ℕ, Option, Some, length, IfOk, IfErr, IfSome, OnOk, OnErr, MatchResult};
+ghost use Rattle.lps_terms.specs.declared.text.Text.{Text};
+ghost use Rattle.lps_model.specs.Report.{block_text};
+ghost use Rattle.lps_model.specs.SmallStream.{batch_of};
+ghost use Rattle.lps_reader.specs.Batch.{IsBatch};
+ghost use Rattle.lps_outside.specs.Bytes.{Stream, Appends, AppendsFront, Takes, TakesNothing};
+ghost use Rattle.lps_outside.specs.Causes.{Rose};
+ghost use Rattle.lps_run.specs.Stopping.{Counted, Reported, StopsAtLine, Stopped, TakesWithin, KeepsLimit};
+
+use crate::engine::Engine;
+use crate::report::write_block;
+use crate::stop::Stop;
+use lps_model::{Accepted, Cycle};
+use lps_outside::{Desk, Source};
+use lps_reader::read_batch;
+use lps_terms::Atom;
+use sqlite_items::Items;
+use std::alloc::{AllocError, Global};
+use std::collections::BTreeSet;
+
+/// How many bytes a stream may have.
+const MOST_BYTES: u64 = 68_719_476_736;
+
+/// How many reads reach the end of such a stream or pass its limit.
+const MOST_READS: u64 = 68_719_476_737;
+
+/// How many bytes a line may have without its line feed.
+const LONGEST_LINE: usize = 65_536;
+
+/// What is kept between two reads of the stream: the run so far, and the part of the next line that was read.
+#[derive(Drop)]
+pub struct Running {
+    pub engine: Engine,
+    pub line: Vec<u8>,
+}
+
+/// Prints bytes.
+fn print<D: Desk>(desk: &mut D, bytes: &[u8]) -> Result<(), Stop>
+    ensures all { OnOk result (Appends (D.printed desk.old) (D.printed desk.new) bytes.now) }
+    ensures front { OnErr result (AppendsFront (D.printed desk.old) (D.printed desk.new) bytes.now) }
+    ensures kind { IfErr result StopsAtLine }
+    ensures cause { MatchResult result (λ _. D.print_faults desk.new ≡ D.print_faults desk.old)
+        (λ stop. (stop ≡ Stop.PrintFault) × Rose (D.print_faults desk.old) (D.print_faults desk.new)) }
+{
+    match desk.print(bytes) {
+        Ok(()) => Ok(()),
+        Err(_) => Err(Stop::PrintFault),
+    }
+}
+
+/// Reads the next piece of the stream.
+fn read_piece<E: Source>(events: &mut E, buffer: &mut [u8]) -> Result<usize, Stop>
+    ensures within { IfOk result (λ count. count ≤ length buffer.old) }
+    ensures bytes { IfOk result (λ count. (before : Stream) → E.stream events.old ≡ Some before →
+        Takes before count (length buffer.old) buffer.new (E.stream events.new)) }
+    ensures none { OnErr result ((before : Stream) → E.stream events.old ≡ Some before → TakesNothing before (E.stream events.new)) }
+    ensures cause { MatchResult result (λ _. E.faults events.new ≡ E.faults events.old)
+        (λ stop. (stop ≡ Stop.EventFault) × Rose (E.faults events.old) (E.faults events.new)) }
+{
+    match events.read(buffer) {
+        Ok(count) => Ok(count),
+        Err(_) => Err(Stop::EventFault),
+    }
+}
+
+/// The bytes of a block.
+fn block_of(
+    alloc: Global,
+    number: u64,
+    cycle: &Cycle,
+    facts: &BTreeSet<Atom>,
+) -> Result<Vec<u8>, AllocError>
+    ensures { IfOk result (λ block. block.items ≡ block_text number cycle.now facts.now.keys) }
+{
+    let mut block = Vec::new(alloc);
+    write_block(&mut block, number, cycle, facts)?;
+    Ok(block)
+}
+
+impl Running {
+    ghost use Rattle.lps_run.specs.Running.{Standing, Reading, Finished};
+
+    /// Prints the block of cycle 0.
+    fn begin<D: Desk>(alloc: Global, text: Accepted, desk: &mut D) -> Result<Running, Stop>
+        ensures text { IfOk result (λ running. running.engine.laws ≡ text) }
+        ensures told { (stream start : List ℕ) (source : Option Stream) → D.printed desk.old ≡ Some start →
+            MatchResult result (λ running. Standing running stream stream start (D.printed desk.new))
+            (λ stop. Stopped text stream start (D.printed desk.new) source stop) }
+        ensures kind { IfErr result StopsAtLine }
+        ensures counted { Counted result 0 0 (D.print_faults desk.old) (D.print_faults desk.new) }
+    {
+        let engine = Engine::start(alloc, text)?;
+        let block = block_of(alloc, 0, &Cycle::none(alloc), &engine.facts)?;
+        print(desk, block.as_slice())?;
+        Ok(Running {
+            engine,
+            line: Vec::new(alloc),
+        })
+    }
+
+    /// The batch of the line that has ended, where it is that of this cycle.
+    fn batch(&self, alloc: Global, number: u64) -> Result<Option<Items<Atom>>, AllocError>
+        ensures found { IfOk result (λ found. found ≡ batch_of self.now.engine.laws number self.now.line.items) }
+        ensures external { IfOk result (λ found. IfSome found (λ events. IsBatch self.now.engine.laws number events)) }
+    {
+        read_batch(alloc, self.engine.laws.text(), number, self.line.as_slice())
+    }
+
+    /// Takes the line that has ended: one cycle more.
+    fn take_line<D: Desk>(&mut self, alloc: Global, desk: &mut D) -> Result<(), Stop>
+        ensures text { self.new.engine.laws ≡ self.old.engine.laws }
+        ensures told { (stream left start : List ℕ) (source : Option Stream) → Standing self.old stream (10 ∷ left) start (D.printed desk.old) →
+            MatchResult result (λ _. Standing self.new stream left start (D.printed desk.new))
+            (λ stop. Stopped self.old.engine.laws stream start (D.printed desk.new) source stop) }
+        ensures kind { IfErr result StopsAtLine }
+        ensures counted { Counted result 0 0 (D.print_faults desk.old) (D.print_faults desk.new) }
+    {
+        let number = self.engine.cycles + 1;
+        let Some(events) = self.batch(alloc, number)? else {
+            return Err(Stop::Refused { line: number });
+        };
+        self.line.clear();
+        let cycle = self.engine.cycle(alloc, events)?;
+        let block = block_of(alloc, number, &cycle, &self.engine.facts)?;
+        print(desk, block.as_slice())
+    }
+
+    /// Takes the next byte of the stream. A line is refused as soon as it is too long.
+    fn take_byte<D: Desk>(&mut self, alloc: Global, byte: u8, desk: &mut D) -> Result<(), Stop>
+        ensures text { self.new.engine.laws ≡ self.old.engine.laws }
+        ensures told { (stream left start : List ℕ) (source : Option Stream) → Standing self.old stream (byte ∷ left) start (D.printed desk.old) →
+            MatchResult result (λ _. Standing self.new stream left start (D.printed desk.new))
+            (λ stop. Stopped self.old.engine.laws stream start (D.printed desk.new) source stop) }
+        ensures kind { IfErr result StopsAtLine }
+        ensures counted { Counted result 0 0 (D.print_faults desk.old) (D.print_faults desk.new) }
+    {
+        if byte == b'\n' {
+            return self.take_line(alloc, desk);
+        }
+        if self.line.len() >= LONGEST_LINE {
+            return Err(Stop::Refused {
+                line: self.engine.cycles + 1,
+            });
+        }
+        self.line.push(byte)?;
+        Ok(())
+    }
+
+    /// Takes a piece of the stream.
+    fn take_piece<D: Desk>(&mut self, alloc: Global, piece: &[u8], desk: &mut D) -> Result<(), Stop>
+        ensures text { self.new.engine.laws ≡ self.old.engine.laws }
+        ensures told { (stream left start : List ℕ) (source : Option Stream) → Standing self.old stream (piece.now ++ left) start (D.printed desk.old) →
+            MatchResult result (λ _. Standing self.new stream left start (D.printed desk.new))
+            (λ stop. Stopped self.old.engine.laws stream start (D.printed desk.new) source stop) }
+        ensures kind { IfErr result StopsAtLine }
+        ensures counted { Counted result 0 0 (D.print_faults desk.old) (D.print_faults desk.new) }
+    {
+        for byte in piece {
+            self.take_byte(alloc, *byte, desk)?;
+        }
+        Ok(())
+    }
+
+    /// How the run stands at the end of the stream: a rest without a line feed is no batch.
+    fn end(&self) -> Result<(), Stop>
+        ensures told { (stream start : List ℕ) (printed : Option (List ℕ)) (source : Option Stream) → Standing self.now stream [] start printed →
+            MatchResult result (λ _. Finished self.now stream start printed) (λ stop. Stopped self.now.engine.laws stream start printed source stop) }
+        ensures kind { IfErr result StopsAtLine }
+        ensures counted { Counted result 0 0 0 0 }
+    {
+        if self.line.is_empty() {
+            Ok(())
+        } else {
+            Err(Stop::Refused {
+                line: self.engine.cycles + 1,
+            })
+        }
+    }
+
+    /// Reads the next piece and takes it. Answers how many bytes it has, which is 0 at the end.
+    fn take_next<E: Source, D: Desk>(
+        &mut self,
+        alloc: Global,
+        taken: u64,
+        events: &mut E,
+        desk: &mut D,
+    ) -> Result<u64, Stop>
+        requires { taken ≤ 2 ^ 36 }
+        ensures text { self.new.engine.laws ≡ self.old.engine.laws }
+        ensures within { IfOk result (λ count. taken + count ≤ 2 ^ 36) }
+        ensures bytes { (before : Stream) → E.stream events.old ≡ Some before → TakesWithin taken before result (E.stream events.new) }
+        ensures told { (stream start : List ℕ) → Reading self.old stream start (D.printed desk.old) (E.stream events.old) →
+            MatchResult result (λ _. Reading self.new stream start (D.printed desk.new) (E.stream events.new))
+            (λ stop. Stopped self.old.engine.laws stream start (D.printed desk.new) (E.stream events.new) stop) }
+        ensures counted { Counted result (E.faults events.old) (E.faults events.new) (D.print_faults desk.old) (D.print_faults desk.new) }
+    {
+        let mut buffer = [0u8; 16384];
+        let count = read_piece(events, &mut buffer)?;
+        if count as u64 > MOST_BYTES - taken {
+            return Err(Stop::StreamLimit);
+        }
+        let (piece, _) = buffer.split_at(count);
+        self.take_piece(alloc, piece, desk)?;
+        Ok(count as u64)
+    }
+
+    /// Takes the stream to its end.
+    fn take_stream<E: Source, D: Desk>(
+        &mut self,
+        alloc: Global,
+        events: &mut E,
+        desk: &mut D,
+    ) -> Result<(), Stop>
+        ensures text { self.new.engine.laws ≡ self.old.engine.laws }
+        ensures limit { (before : Stream) → E.stream events.old ≡ Some before → KeepsLimit before result (E.stream events.new) }
+        ensures ended { OnOk result ((before : Stream) → E.stream events.old ≡ Some before → (after : Stream) × (E.stream events.new ≡ Some after) × (after.left ≡ [])) }
+        ensures told { (before : Stream) (start : List ℕ) → E.stream events.old ≡ Some before → Standing self.old before.left before.left start (D.printed desk.old) →
+            MatchResult result (λ _. Finished self.new before.left start (D.printed desk.new))
+            (λ stop. Stopped self.old.engine.laws before.left start (D.printed desk.new) (E.stream events.new) stop) }
+        ensures counted { Counted result (E.faults events.old) (E.faults events.new) (D.print_faults desk.old) (D.print_faults desk.new) }
+    {
+        let mut taken: u64 = 0;
+        for turn in 0..MOST_READS {
+            let count = self.take_next(alloc, taken, events, desk)?;
+            if count == 0 {
+                return self.end();
+            }
+            taken += count;
+        }
+        Err(Stop::StreamLimit)
+    }
+}
+
+/// Runs a text over a stream of batches, and prints the report: each block as soon as its cycle is made.
+pub fn run<E: Source, D: Desk>(
+    alloc: Global,
+    text: Accepted,
+    events: &mut E,
+    desk: &mut D,
+) -> Result<(), Stop>
+    ensures limit { (before : Stream) → E.stream events.old ≡ Some before → KeepsLimit before result (E.stream events.new) }
+    ensures told { (before : Stream) (start : List ℕ) → E.stream events.old ≡ Some before → D.printed desk.old ≡ Some start →
+        MatchResult result (λ _. Reported text before.left start (D.printed desk.new) (E.stream events.new))
+        (λ stop. Stopped text before.left start (D.printed desk.new) (E.stream events.new) stop) }
+    ensures counted { Counted result (E.faults events.old) (E.faults events.new) (D.print_faults desk.old) (D.print_faults desk.new) }
+{
+    let mut running = Running::begin(alloc, text, desk)?;
+    running.take_stream(alloc, events, desk)?;
+    print(desk, b"done\n")
+}
