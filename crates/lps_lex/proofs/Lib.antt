@@ -1,0 +1,10 @@
+pub mod Bytes
+pub mod Fronts
+pub mod Numbers
+pub mod Pieces
+pub mod Runs
+pub mod Signs
+pub mod Steps
+pub mod Words
+pub mod Readings
+pub mod Places
