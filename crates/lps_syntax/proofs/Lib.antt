@@ -1,0 +1,5 @@
+pub mod Symbols
+pub mod Begun
+pub mod Tallies
+pub mod Verdicts
+pub mod Unique
