@@ -1,0 +1,4 @@
+pub mod Calls
+pub mod Texts
+pub mod Streams
+pub mod Prints
