@@ -1,14 +1,14 @@
 -- The effects of events as lists are those that the definitions say.
-use Rattle.std.proofs.Common.{◌≡◌, ℕ, Bool, true, false, cond, List, [], ◌∷◌, ◌++◌, refl, sym, ap, subst, ◌∙◌, inl, inr}
-use Rattle.std.specs.Prelude.{◌⊎◌, ◌&&◌, Contains}
-use Rattle.std.specs.List.{flat_map, list_any}
+use Rattle.std.proofs.Common.{◌≡◌, Bool, true, false, cond, List, [], ◌∷◌, refl, sym, ap, subst, ◌∙◌, inl, inr}
+use Rattle.std.specs.Prelude.{◌&&◌, Contains}
+use Rattle.std.specs.List.{flat_map}
 use Rattle.std.proofs.lemmas.Cmp.{eq_by_cmp_equiv}
 use Rattle.std.proofs.lemmas.List.Elements.{Contains-append_left, Contains-append_right, Contains-append_cases}
 use Rattle.std.proofs.lemmas.Map.Views.{list_any-from_Contains, Contains-from_any}
 use Rattle.lps_terms.specs.declared.atom.Atom.{Atom}
 use Rattle.lps_terms.specs.declared.cond.Cond.{Cond}
 use Rattle.lps_terms.specs.declared.text.Text.{Text}
-use Rattle.lps_terms.specs.Order.{atom_cmp, atom_eq}
+use Rattle.lps_terms.specs.Order.{atom_eq}
 use Rattle.lps_terms.specs.OrderLaws.{atom_cmp_total, atom_eq-decides}
 use Rattle.lps_model.specs.Program.{Law, laws}
 use Rattle.lps_model.specs.Holds.{Causes}

@@ -8,4 +8,3 @@ pub mod Steps
 pub mod Pieces
 pub mod Loads
 pub mod Tops
-pub mod Takings

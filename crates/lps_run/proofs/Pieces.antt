@@ -1,11 +1,11 @@
 -- Reads of the stream.
-use Rattle.std.proofs.Common.{◌≡◌, ℕ, zero, suc, ◌+◌, ◌-◌, ◌<◌, ◌≤◌, ◌^◌, List, [], ◌∷◌, ◌++◌, length, take, Option, Some, None, Result, Ok, Err, refl, sym, ap, subst, ◌∙◌, arith, length-append, OnOk}
+use Rattle.std.proofs.Common.{◌≡◌, ℕ, ◌+◌, ◌-◌, ◌<◌, ◌≤◌, ◌^◌, List, [], ◌++◌, length, take, Option, Some, Result, Ok, Err, refl, sym, ap, subst, ◌∙◌, arith, length-append, OnOk}
 use Rattle.std.proofs.lemmas.List.{length-take}
 use Rattle.lps_outside.specs.Bytes.{Stream, Takes}
 use Rattle.lps_run.specs.declared.stream.Running.{Running}
 use Rattle.lps_run.specs.declared.stop.Stop.{Stop}
 use Rattle.lps_run.specs.declared.stop.Stop.TheVariants.{NoMemory, Refused, StreamLimit, EventFault, PrintFault}
-use Rattle.lps_run.specs.Stopping.{EndsAtRead, Stopped, StopsAtLine, LimitIs, TakesWithin, KeepsLimit}
+use Rattle.lps_run.specs.Stopping.{Stopped, StopsAtLine, LimitIs, TakesWithin, KeepsLimit}
 use Rattle.lps_run.specs.Running.{Standing, Reading}
 use Rattle.lps_run.proofs.Steps.{made_ends}
 

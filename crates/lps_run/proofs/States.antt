@@ -1,20 +1,19 @@
 -- From one state to the next.
-use Rattle.std.proofs.Common.{◌≡◌, ℕ, zero, suc, ◌+◌, ◌<◌, ◌≤◌, Bool, true, false, List, [], ◌∷◌, ◌++◌, length, map, refl, sym, ap, subst, ◌∙◌, inl, inr, arith, add-one}
-use Rattle.std.specs.Prelude.{◌⊎◌, ◌↔◌, ◌&&◌, ◌||◌, not, Contains, Some, slice_get}
+use Rattle.std.proofs.Common.{◌≡◌, ℕ, suc, ◌+◌, ◌<◌, ◌≤◌, Bool, true, false, List, [], ◌∷◌, ◌++◌, length, map, refl, sym, ap, subst, ◌∙◌, inl, inr, arith}
+use Rattle.std.specs.Prelude.{◌⊎◌, ◌&&◌, ◌||◌, not, Some, slice_get}
 use Rattle.std.specs.List.{AllByRecursion, flat_map}
 use Rattle.std.specs.List.Sorted.{IsStrictlySortedBy}
 use Rattle.std.proofs.lemmas.List.{append-nil, length-append}
 use Rattle.lps_terms.specs.declared.atom.Atom.{Atom}
 use Rattle.lps_terms.specs.declared.text.Text.{Text}
 use Rattle.lps_terms.specs.Order.{atom_cmp}
-use Rattle.lps_model.specs.declared.verdict.Verdict.{Verdict}
 use Rattle.lps_model.specs.declared.verdict.Verdict.TheVariants.{Admitted}
 use Rattle.lps_model.specs.declared.cycle.Cycle.{Cycle}
 use Rattle.lps_model.specs.declared.cycle.Pick.{Pick}
 use Rattle.lps_model.specs.declared.trace.Trace.{Trace}
 use Rattle.lps_model.specs.Program.{laws, initial_atoms}
 use Rattle.lps_model.specs.Trace.{admitted, happens_in, cycle_or_none, events_at, then_cycle}
-use Rattle.lps_model.specs.Holds.{Causes, Initiated, Terminated, Ends, Holds, IsState}
+use Rattle.lps_model.specs.Holds.{Causes, Ends, Holds, IsState}
 use Rattle.lps_model.specs.Run.{IsExternal, IsLegal, IsRun, first_trace}
 use Rattle.lps_model.proofs.Persistence.{start_law, update_law}
 use Rattle.lps_model.proofs.Growth.{same_first, same_back, holds_same, run_more}

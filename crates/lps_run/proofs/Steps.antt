@@ -1,13 +1,12 @@
 -- One byte, one line, and the end of a stream.
-use Rattle.std.proofs.Common.{◌≡◌, ℕ, zero, suc, ◌+◌, ◌<◌, ◌≤◌, Bool, true, false, eqb, List, [], ◌∷◌, ◌++◌, length, Option, Some, None, Result, Ok, Err, refl, sym, ap, subst, ◌∙◌, inl, inr, arith, append_assoc, length-append, OnOk, OnErr, MatchResult}
-use Rattle.std.specs.Prelude.{◌⊎◌}
+use Rattle.std.proofs.Common.{◌≡◌, ℕ, suc, ◌+◌, ◌<◌, ◌≤◌, false, eqb, List, [], ◌∷◌, ◌++◌, length, Option, Some, None, Result, Ok, Err, refl, sym, ap, subst, ◌∙◌, inl, inr, arith, append_assoc, length-append, OnOk, OnErr, MatchResult}
 use Rattle.std.proofs.lemmas.List.{append-nil}
 use Rattle.lps_terms.specs.declared.atom.Atom.{Atom}
 use Rattle.lps_terms.specs.declared.text.Text.{Text}
 use Rattle.lps_model.specs.declared.cycle.Cycle.{Cycle}
 use Rattle.lps_model.specs.declared.trace.Trace.{Trace}
 use Rattle.lps_model.specs.Trace.{no_cycle, then_cycle}
-use Rattle.lps_model.specs.Report.{AreAllBlocks, IsReport, block_text, last_line}
+use Rattle.lps_model.specs.Report.{AreAllBlocks, block_text, last_line}
 use Rattle.lps_model.specs.Run.{IsRun, first_trace}
 use Rattle.lps_model.specs.SmallStream.{Judged, batch_of, faulty_at, judged, judged_end, judged_from, put_batches, then_judged}
 use Rattle.lps_outside.specs.Bytes.{IsFront, Appends, AppendsFront, Stream}

@@ -1,5 +1,5 @@
 -- The answers of the top call.
-use Rattle.std.proofs.Common.{◌≡◌, ℕ, ◌<◌, ◌≤◌, ◌+◌, ◌^◌, List, length, Option, Some, Result, Ok, Err, refl, sym, subst, inl, arith, MatchResult}
+use Rattle.std.proofs.Common.{◌≡◌, ℕ, ◌<◌, ◌+◌, ◌^◌, List, length, Option, Some, Result, Ok, Err, refl, subst, inl, arith, MatchResult}
 use Rattle.std.specs.Prelude.{◌↔◌}
 use Rattle.std.proofs.lemmas.Bool.{lt-ltb}
 use Rattle.lps_terms.specs.declared.text.Text.{Text}
@@ -12,7 +12,7 @@ use Rattle.lps_run.specs.declared.stop.Stop.{Stop}
 use Rattle.lps_run.specs.declared.stop.Stop.TheVariants.{NoMemory, Refused, StreamLimit, EventFault, PrintFault}
 use Rattle.lps_run.specs.declared.answer.Answer.{Answer}
 use Rattle.lps_run.specs.declared.answer.Answer.TheVariants as answers
-use Rattle.lps_run.specs.Stopping.{Reported, PrintsFront, Stopped, Counted, LimitIs, KeepsLimit}
+use Rattle.lps_run.specs.Stopping.{Reported, Stopped, Counted, LimitIs, KeepsLimit}
 use Rattle.lps_run.specs.Answers.{Answered, Caused, EndsBeforeRun, IsNoUsage, IsSilent, PrintsFrontIf, RefusedAs, answer_to}
 
 pub long_text : (all : List ℕ) → 1048576 < length all → text_of all ≡ Err (Read TextTooLong)

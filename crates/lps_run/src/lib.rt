@@ -10,8 +10,6 @@
 mod answer;
 mod causal;
 mod engine;
-#[cfg(test)]
-mod fakes;
 mod loading;
 mod report;
 mod stop;

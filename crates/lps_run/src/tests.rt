@@ -1,6 +1,6 @@
-use crate::fakes::{OneText, Paper, Pieces};
 use crate::{Answer, lps};
-use std::alloc::Global;
+use lps_memworld::{MemDesk, MemSource, MemTexts};
+use std::alloc::{AllocError, Global};
 use std::process::Abort;
 use std::test::Fail;
 
@@ -9,10 +9,10 @@ use std::test::Fail;
 struct Row {
     text: &'static str,
     stream: &'static str,
-    most: usize,
-    text_fails: bool,
-    read_fails: u64,
-    print_fails: u64,
+    piece: usize,
+    text_fails: &'static [u64],
+    read_fails: &'static [u64],
+    print_fails: &'static [u64],
     code: u8,
     line: &'static str,
     printed: &'static str,
@@ -21,10 +21,10 @@ struct Row {
 const PLAIN: Row = Row {
     text: "",
     stream: "",
-    most: 16384,
-    text_fails: false,
-    read_fails: 0,
-    print_fails: 0,
+    piece: 16384,
+    text_fails: &[],
+    read_fails: &[],
+    print_fails: &[],
     code: 0,
     line: "done",
     printed: "cycle 0\nstate\ndone\n",
@@ -33,37 +33,35 @@ const PLAIN: Row = Row {
 const SWITCH: &str =
     "fluent p/0.\nevent e/0.\nevent g/0.\ne initiates p.\ne terminates p.\ng terminates p.\n";
 
-fn run_row(alloc: Global, row: &Row, paper: &mut Paper) -> Result<Answer, Fail> {
-    let words = [
-        String::from_str(alloc, "run")?,
-        String::from_str(alloc, "t")?,
-    ];
-    let mut texts = OneText {
-        bytes: Vec::from_slice(alloc, row.text.as_bytes())?,
-        fails: row.text_fails,
-        faults: 0,
-    };
-    let mut events = Pieces {
-        bytes: Vec::from_slice(alloc, row.stream.as_bytes())?,
-        at: 0,
-        took: 0,
-        most: row.most.max(1),
-        reads: 0,
-        fails: row.read_fails,
-        faults: 0,
-    };
-    Ok(lps(alloc, &words, &mut texts, &mut events, paper))
+/// One text under the name `t`.
+fn text_of(alloc: Global, row: &Row) -> Result<MemTexts, AllocError> {
+    let bytes = Vec::from_slice(alloc, row.text.as_bytes())?;
+    let texts = vec![in alloc; (String::from_str(alloc, "t")?, bytes)]?;
+    Ok(MemTexts::new(texts, Vec::from_slice(alloc, row.text_fails)?))
+}
+
+fn stream_of(alloc: Global, row: &Row) -> Result<MemSource, AllocError> {
+    let bytes = Vec::from_slice(alloc, row.stream.as_bytes())?;
+    let fails = Vec::from_slice(alloc, row.read_fails)?;
+    Ok(MemSource::new(bytes, row.piece, fails))
+}
+
+/// The answer to these words, and what is printed.
+fn answer_to(alloc: Global, words: &[&str], row: &Row) -> Result<(Answer, MemDesk), AllocError> {
+    let mut list = Vec::new(alloc);
+    for word in words {
+        list.push(String::from_str(alloc, word)?)?;
+    }
+    let mut texts = text_of(alloc, row)?;
+    let mut events = stream_of(alloc, row)?;
+    let mut desk = MemDesk::new(alloc, Vec::from_slice(alloc, row.print_fails)?);
+    let answer = lps(alloc, list.as_slice(), &mut texts, &mut events, &mut desk);
+    Ok((answer, desk))
 }
 
 fn check_row(rt: &impl Abort, alloc: Global, row: &Row) -> Result<(), Fail> {
-    let mut paper = Paper {
-        printed: Vec::new(alloc),
-        prints: 0,
-        fails: row.print_fails,
-        faults: 0,
-    };
-    let answer = run_row(alloc, row, &mut paper)?;
-    assert_eq!(rt; paper.printed.as_slice(), row.printed.as_bytes());
+    let (answer, desk) = answer_to(alloc, &["run", "t"], row)?;
+    assert_eq!(rt; desk.printed(), row.printed.as_bytes());
     assert_eq!(rt; answer.code(), row.code);
     let line = answer.to_string(alloc)?;
     assert_eq!(rt; line.as_str(), row.line);
@@ -93,9 +91,9 @@ fn reports(rt: HostRuntime) -> Result<(), Fail> {
         &[
             PLAIN,
             row,
-            Row { most: 1, ..row },
-            Row { most: 2, ..row },
-            Row { most: 7, ..row },
+            Row { piece: 1, ..row },
+            Row { piece: 2, ..row },
+            Row { piece: 7, ..row },
         ],
     )
 }
@@ -161,18 +159,25 @@ fn refusals(rt: HostRuntime) -> Result<(), Fail> {
     )
 }
 
-/// What is out after each print of the report of `SWITCH` over two batches, but the last.
-const OUT: [&str; 4] = [
-    "",
+/// What is out after each print of the report of `SWITCH` over two batches.
+const OUT: [&str; 3] = [
     "cycle 0\nstate\n",
     "cycle 0\nstate\ncycle 1\nadmit e\nstate p\n",
     "cycle 0\nstate\ncycle 1\nadmit e\nstate p\ncycle 2\nstate p\n",
 ];
 
+/// The same where a print fails with half of its bytes out.
+const HALVES: [&str; 4] = [
+    "cycle 0",
+    "cycle 0\nstate\ncycle 1\nadmi",
+    "cycle 0\nstate\ncycle 1\nadmit e\nstate p\ncycle 2\n",
+    "cycle 0\nstate\ncycle 1\nadmit e\nstate p\ncycle 2\nstate p\ndo",
+];
+
 const FAULTY: Row = Row {
     text: SWITCH,
     stream: "1: e.\n2: .\n",
-    most: 6,
+    piece: 6,
     code: 7,
     ..PLAIN
 };
@@ -180,7 +185,7 @@ const FAULTY: Row = Row {
 #[test]
 fn failing_text(rt: HostRuntime) -> Result<(), Fail> {
     let row = Row {
-        text_fails: true,
+        text_fails: &[1],
         line: "text fault",
         printed: "",
         ..FAULTY
@@ -190,9 +195,10 @@ fn failing_text(rt: HostRuntime) -> Result<(), Fail> {
 
 #[test]
 fn failing_prints(rt: HostRuntime) -> Result<(), Fail> {
-    for (i, printed) in OUT.iter().enumerate() {
+    let calls: [&[u64]; 4] = [&[1], &[2], &[3], &[4]];
+    for (print_fails, printed) in calls.iter().zip(&HALVES) {
         let row = Row {
-            print_fails: i as u64 + 1,
+            print_fails,
             line: "print fault",
             printed,
             ..FAULTY
@@ -205,9 +211,10 @@ fn failing_prints(rt: HostRuntime) -> Result<(), Fail> {
 /// Each read takes a line, and the third finds the end.
 #[test]
 fn failing_reads(rt: HostRuntime) -> Result<(), Fail> {
-    for (i, printed) in OUT[1..].iter().enumerate() {
+    let calls: [&[u64]; 3] = [&[1], &[2], &[3]];
+    for (read_fails, printed) in calls.iter().zip(&OUT) {
         let row = Row {
-            read_fails: i as u64 + 1,
+            read_fails,
             line: "event fault",
             printed,
             ..FAULTY
@@ -217,29 +224,7 @@ fn failing_reads(rt: HostRuntime) -> Result<(), Fail> {
     Ok(())
 }
 
-/// A text that is not read and a stream that is not: the words decide first.
-fn answer_to_words(alloc: Global, words: &[&str], paper: &mut Paper) -> Result<Answer, Fail> {
-    let mut list = Vec::new(alloc);
-    for word in words {
-        list.push(String::from_str(alloc, word)?)?;
-    }
-    let mut texts = OneText {
-        bytes: Vec::new(alloc),
-        fails: true,
-        faults: 0,
-    };
-    let mut events = Pieces {
-        bytes: Vec::new(alloc),
-        at: 0,
-        took: 0,
-        most: 1,
-        reads: 0,
-        fails: 1,
-        faults: 0,
-    };
-    Ok(lps(alloc, list.as_slice(), &mut texts, &mut events, paper))
-}
-
+/// The words decide before a text or a stream is read.
 #[test]
 fn words(rt: HostRuntime) -> Result<(), Fail> {
     let no_command: [&[&str]; 6] = [
@@ -250,16 +235,15 @@ fn words(rt: HostRuntime) -> Result<(), Fail> {
         &["run", "-t"],
         &["run", "t", "u"],
     ];
+    let row = Row {
+        text_fails: &[1],
+        read_fails: &[1],
+        ..PLAIN
+    };
     for words in no_command {
-        let mut paper = Paper {
-            printed: Vec::new(rt.alloc()),
-            prints: 0,
-            fails: 1,
-            faults: 0,
-        };
-        let answer = answer_to_words(rt.alloc(), words, &mut paper)?;
+        let (answer, desk) = answer_to(rt.alloc(), words, &row)?;
         assert_eq!(rt; answer.code(), 2);
-        assert_eq!(rt; paper.prints, 0);
+        assert!(rt; desk.printed().is_empty());
     }
     Ok(())
 }

@@ -1,4 +1,4 @@
-use Rattle.std.proofs.Common.{◌≡◌, ◌<◌, ◌∙◌, ◌++◌, length, arith, subst, sym, ap, List, take}
+use Rattle.std.proofs.Common.{◌<◌, ◌∙◌, ◌++◌, length, arith, subst, sym, ap, List, take}
 use Rattle.std.specs.List.{flat_map}
 use Rattle.lps_terms.specs.declared.statement.Statement.{Statement}
 use Rattle.lps_model.specs.Program.{Law, law_in}

@@ -1,9 +1,8 @@
-use Rattle.std.proofs.Common.{◌≡◌, ◌∙◌, Some, cond, subst, Option, ap, ◌++◌, ◌∷◌, []}
+use Rattle.std.proofs.Common.{◌≡◌, ◌∙◌, Some, cond, subst, ◌++◌, ◌∷◌, []}
 use Rattle.std.specs.Prelude.{if◌then◌else◌}
 use Rattle.std.specs.BTreeMap.{get}
 use Rattle.lps_terms.specs.declared.atom.Atom.{Atom}
 use Rattle.lps_terms.specs.Order.{atom_cmp, atom_eq}
-use Rattle.lps_run.specs.declared.causal.Changes.{Changes}
 use Rattle.lps_run.specs.Effects.{is_kind}
 use Rattle.lps_run.proofs.Tables.{noted}
 use Rattle.lps_run.proofs.causal.note.Goals as goal

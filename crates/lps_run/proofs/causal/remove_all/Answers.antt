@@ -1,4 +1,4 @@
-use Rattle.std.proofs.Common.{◌≡◌, ◌<◌, ◌∙◌, length, arith}
+use Rattle.std.proofs.Common.{◌<◌, ◌∙◌, length, arith}
 use Rattle.lps_run.proofs.Among.{one_out}
 use Rattle.lps_run.proofs.causal.remove_all.Goals as goal
 

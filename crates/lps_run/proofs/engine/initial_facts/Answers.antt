@@ -1,4 +1,4 @@
-use Rattle.std.proofs.Common.{◌≡◌, ◌<◌, ◌∙◌, ◌++◌, length, arith, sym, ap, List, take}
+use Rattle.std.proofs.Common.{◌<◌, ◌∙◌, ◌++◌, length, arith, sym, ap, List, take}
 use Rattle.std.specs.List.{flat_map}
 use Rattle.lps_terms.specs.declared.atom.Atom.{Atom}
 use Rattle.lps_terms.specs.declared.statement.Statement.{Statement}

@@ -1,4 +1,4 @@
-use Rattle.std.proofs.Common.{◌≡◌, ◌∙◌, ◌≤◌, ◌+◌, ◌^◌, ℕ, List, length, arith, subst, refl, None}
+use Rattle.std.proofs.Common.{◌∙◌, ◌≤◌, ◌+◌, ◌^◌, length, arith, subst, refl, None}
 use Rattle.std.proofs.lemmas.Result.{err_from_is_err_and, IfErr-at_err}
 use Rattle.lps_terms.specs.declared.text.Text.{Text}
 use Rattle.lps_run.specs.Stopping.{Stopped, StopsAtLine}

@@ -1,4 +1,4 @@
-use Rattle.std.proofs.Common.{◌≡◌, ◌∙◌, Ok, ap, sym, inl}
+use Rattle.std.proofs.Common.{◌∙◌, Ok, ap, sym, inl}
 use Rattle.lps_run.proofs.Tops.{answered, run_limit}
 use Rattle.lps_run.proofs.top.run_text.Goals as goal
 

@@ -1,4 +1,4 @@
-use Rattle.std.proofs.Common.{◌≡◌, ◌<◌, ◌∙◌, length, arith, true}
+use Rattle.std.proofs.Common.{◌<◌, ◌∙◌, length, arith, true}
 use Rattle.lps_model.specs.Program.{laws}
 use Rattle.lps_run.specs.Effects.{effects_of}
 use Rattle.lps_terms.specs.declared.atom.Atom.{Atom}

@@ -1,4 +1,4 @@
-use Rattle.std.proofs.Common.{◌≡◌, ◌∙◌, ℕ, List, [], Some, Ok, ap, sym, subst, inr}
+use Rattle.std.proofs.Common.{◌∙◌, ℕ, List, [], Some, Ok, ap, sym, subst, inr}
 use Rattle.std.proofs.lemmas.List.{append-nil}
 use Rattle.std.proofs.lemmas.Result.{err_from_is_err_and}
 use Rattle.lps_terms.specs.declared.text.Text.{Text}

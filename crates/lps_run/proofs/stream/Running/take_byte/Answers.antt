@@ -1,4 +1,4 @@
-use Rattle.std.proofs.Common.{◌≡◌, ◌∙◌, ◌≤◌, ℕ, List, ◌∷◌, length, false, eqb, arith, subst, refl}
+use Rattle.std.proofs.Common.{◌≡◌, ◌≤◌, ◌∷◌, length, false, eqb, arith, subst, refl}
 use Rattle.std.proofs.lemmas.Bool.Decides.{nat_tests}
 use Rattle.std.proofs.lemmas.Result.{err_from_is_err_and}
 use Rattle.lps_run.specs.Running.{Standing}

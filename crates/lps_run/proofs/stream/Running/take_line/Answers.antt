@@ -1,7 +1,6 @@
-use Rattle.std.proofs.Common.{◌≡◌, ◌∙◌, ℕ, List, [], ◌∷◌, Some, sym, refl}
+use Rattle.std.proofs.Common.{◌∙◌, [], sym, refl}
 use Rattle.std.proofs.lemmas.Result.{err_from_is_err_and}
-use Rattle.lps_terms.specs.declared.atom.Atom.{Atom}
-use Rattle.lps_run.proofs.Steps.{standing_front, line_refused, line_made, block_printed}
+use Rattle.lps_run.proofs.Steps.{standing_front, line_made, block_printed}
 use Rattle.lps_run.proofs.stream.Running.take_line.Goals as goal
 
 pub returns-in_err-events-clause-told : goal.returns-in_err-events-clause-told

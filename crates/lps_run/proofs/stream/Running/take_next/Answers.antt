@@ -1,4 +1,4 @@
-use Rattle.std.proofs.Common.{◌≡◌, ◌≤◌, ◌<◌, length, arith, ℕ, List, None}
+use Rattle.std.proofs.Common.{◌≤◌, length, arith, None}
 use Rattle.std.proofs.lemmas.Result.{err_from_is_err_and}
 use Rattle.lps_run.proofs.Pieces.{read_failed, limit_passed, piece_read, within_passed, within_line, within_read}
 use Rattle.lps_run.proofs.stream.Running.take_next.Goals as goal

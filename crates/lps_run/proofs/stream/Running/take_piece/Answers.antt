@@ -1,7 +1,6 @@
-use Rattle.std.proofs.Common.{◌≡◌, ◌∙◌, ◌<◌, ◌+◌, ◌++◌, ◌∷◌, suc, length, drop, drop-cons, get_or, arith, add-one, subst, sym, List, ℕ, None}
+use Rattle.std.proofs.Common.{◌≡◌, ◌∙◌, ◌<◌, ◌++◌, ◌∷◌, suc, length, drop, drop-cons, get_or, arith, add-one, subst, sym, List, ℕ, None}
 use Rattle.std.proofs.lemmas.Result.{err_from_is_err_and}
 use Rattle.lps_terms.specs.declared.text.Text.{Text}
-use Rattle.lps_outside.specs.Bytes.{Stream}
 use Rattle.lps_run.specs.Running.{Standing}
 use Rattle.lps_run.specs.Stopping.{Stopped}
 use Rattle.lps_run.proofs.stream.Running.take_piece.Goals as goal

@@ -1,4 +1,4 @@
-use Rattle.std.proofs.Common.{◌≡◌, ◌++◌, ℕ, List, Option, drop}
+use Rattle.std.proofs.Common.{◌≡◌, ◌++◌, ℕ, List, drop}
 use Rattle.lps_run.specs.Running.{Standing}
 use Rattle.lps_run.proofs.stream.Running.take_piece.Given as goal
 
