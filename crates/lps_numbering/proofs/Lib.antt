@@ -1,0 +1,4 @@
+mod Alike
+mod Folds
+mod Spelled
+mod Written
