@@ -1,2 +1,3 @@
 mod First
 mod Numbering
+pub mod Texts

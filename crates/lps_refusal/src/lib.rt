@@ -1,12 +1,16 @@
-//! The first refusal of a text's tokens: a token that does not fit, a variable too many, or a symbol too many.
-//! It stands on the judge of tokens and on their numbering, and never knows how either finds its place.
-//! It carries the theorem that the earliest of the three is answered, as the clauses of `first_refusal` and `refusal_of`.
+//! The first refusal of a text: for its size, for a fault of its bytes, or for a token that does not fit, a variable too many
+//! or a symbol too many.
+//! It stands on the lexer, on the judge of tokens and on their numbering, and never knows how they find their places.
+//! It carries the theorem that the earliest refusal is answered, as the clauses of `first_refusal`, `refusal_of` and
+//! `numbered_text`.
 #![tactic(auto)]
 
 mod judge;
 mod refusal;
 #[cfg(test)]
 mod tests;
+mod text;
 
 pub use judge::refusal_of;
 pub use refusal::first_refusal;
+pub use text::{LONGEST_TEXT, numbered_text};

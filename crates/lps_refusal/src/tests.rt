@@ -1,9 +1,9 @@
 //! Refusals of four tokens, in the lines 1, 2, 2 and 3, and of small texts.
-use crate::{first_refusal, refusal_of};
+use crate::{LONGEST_TEXT, first_refusal, numbered_text, refusal_of};
 use lps_lex::{Token, TokenKind, lex};
 use lps_numbering::number;
 use lps_syntax::TextVerdict;
-use lps_terms::ReadRefused;
+use lps_terms::{LexRefused, ReadRefused};
 use std::alloc::AllocError;
 
 fn in_line(line: u32) -> Token {
@@ -60,5 +60,34 @@ fn texts_are_refused_in_a_line(rt: HostRuntime) -> Result<(), AllocError> {
         let found = refusal_of(rt.alloc(), &numbered, tokens.as_slice())?;
         assert!(rt; found == want);
     }
+    Ok(())
+}
+
+/// The number of tokens, or the first refusal.
+#[test]
+fn bytes_are_a_text_or_refused(rt: HostRuntime) -> Result<(), AllocError> {
+    for (bytes, want) in [
+        (b"".as_slice(), Ok(0)),
+        (b"p(X, _) if q(X).", Ok(12)),
+        (
+            b"p.\n$",
+            Err(ReadRefused::Lex(LexRefused::BadByte { line: 2 })),
+        ),
+        (b"p.\nq(", Err(ReadRefused::BadSyntax { line: 2 })),
+    ] {
+        let found = numbered_text(rt.alloc(), bytes)?;
+        assert!(rt; found.map(|numbered| numbered.toks.len()) == want);
+    }
+    Ok(())
+}
+
+#[test]
+fn one_byte_is_too_many(rt: HostRuntime) -> Result<(), AllocError> {
+    let mut bytes = Vec::new(rt.alloc());
+    bytes.resize(LONGEST_TEXT, b' ')?;
+    assert!(rt; numbered_text(rt.alloc(), bytes.as_slice())?.is_ok());
+    bytes.push(b' ')?;
+    let found = numbered_text(rt.alloc(), bytes.as_slice())?;
+    assert!(rt; found.err() == Some(ReadRefused::TextTooLong));
     Ok(())
 }
