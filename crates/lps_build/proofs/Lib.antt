@@ -1,0 +1,4 @@
+pub mod Steps
+pub mod Left
+pub mod TermTrees
+pub mod ExpressionTrees

@@ -1,0 +1,4 @@
+pub mod Meaning
+pub mod ReadTerms
+pub mod ReadExpressions
+pub mod Fits
