@@ -1,0 +1,4 @@
+pub mod Sets
+pub mod Present
+pub mod Trails
+pub mod Sequences

@@ -1,0 +1,69 @@
+ghost use Rattle.std.specs.Prelude.{◌≡◌, ◌++◌, ℕ, Bool, true, OnOk, IfOk};
+ghost use Rattle.std.specs.BTreeMap.{IsOrdered};
+ghost use Rattle.lps_terms.specs.declared.atom.Atom.{Atom};
+ghost use Rattle.lps_terms.specs.Order.{atom_cmp};
+ghost use Rattle.lps_facts.specs.Facts.{changed, is_among};
+ghost use Rattle.lps_facts.specs.Trail.{knows, present};
+
+use lps_terms::{Atom, copy_atom};
+use std::alloc::{AllocError, Global};
+use std::collections::BTreeMap;
+
+#[tactic(auto, using(crate::proofs::Present::found_present))]
+/// Whether the fact has an entry that is present.
+pub(crate) fn is_present(entries: &BTreeMap<Atom, bool>, fact: &Atom) -> bool
+    requires { IsOrdered atom_cmp entries.now }
+    ensures { result ≡ is_among (present entries.now.entries) fact.now }
+{
+    match entries.get(fact) {
+        Some(present) => *present,
+        None => false,
+    }
+}
+
+/// Gives the fact an entry, where it has none yet. What is present stays.
+pub(crate) fn make_room(
+    alloc: Global,
+    entries: &mut BTreeMap<Atom, bool>,
+    fact: &Atom,
+) -> Result<(), AllocError>
+    requires { IsOrdered atom_cmp entries.now }
+    ensures ordered { IsOrdered atom_cmp entries.new }
+    ensures same { present entries.new.entries ≡ present entries.old.entries }
+    ensures known { (q : Atom) → knows entries.old.entries q ≡ true → knows entries.new.entries q ≡ true }
+    ensures room { OnOk result (knows entries.new.entries fact.now ≡ true) }
+{
+    if entries.contains_key(fact) {
+        return Ok(());
+    }
+    entries.insert(copy_atom(alloc, fact)?, false)?;
+    Ok(())
+}
+
+/// Makes a fact that has an entry present or absent.
+pub(crate) fn set_present(entries: &mut BTreeMap<Atom, bool>, fact: &Atom, inserted: bool)
+    requires room { knows entries.now.entries fact.now ≡ true }
+    ensures ordered { IsOrdered atom_cmp entries.new }
+    ensures changed { present entries.new.entries ≡ changed inserted fact.now (present entries.old.entries) }
+    ensures known { (q : Atom) → knows entries.old.entries q ≡ true → knows entries.new.entries q ≡ true }
+{
+    if let Some(present) = entries.get_mut(fact) {
+        *present = inserted;
+    }
+}
+
+/// Copies of the facts that are present, in order.
+pub(crate) fn copy_present(
+    alloc: Global,
+    entries: &BTreeMap<Atom, bool>,
+) -> Result<Vec<Atom>, AllocError>
+    ensures { IfOk result (λ facts. facts.items ≡ present entries.now.entries) }
+{
+    let mut facts = Vec::new(alloc);
+    for (fact, present) in entries.iter() {
+        if *present {
+            facts.push(copy_atom(alloc, fact)?)?;
+        }
+    }
+    Ok(facts)
+}
