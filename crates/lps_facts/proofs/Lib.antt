@@ -2,3 +2,5 @@ pub mod Sets
 pub mod Present
 pub mod Trails
 pub mod Sequences
+pub mod Matches
+pub mod Selections

@@ -1,2 +1,3 @@
 pub mod Facts
 pub mod Trail
+pub mod Matching

@@ -3,8 +3,10 @@ ghost use Rattle.std.specs.BTreeMap.{IsOrdered};
 ghost use Rattle.lps_terms.specs.declared.atom.Atom.{Atom};
 ghost use Rattle.lps_terms.specs.Order.{atom_cmp};
 ghost use Rattle.lps_facts.specs.Facts.{changed, is_among};
+ghost use Rattle.lps_facts.specs.Matching.{IsInstance, IsPicked, IsSelection};
 ghost use Rattle.lps_facts.specs.Trail.{knows, present};
 
+use crate::matching::is_instance;
 use lps_terms::{Atom, copy_atom};
 use std::alloc::{AllocError, Global};
 use std::collections::BTreeMap;
@@ -63,6 +65,34 @@ pub(crate) fn copy_present(
     for (fact, present) in entries.iter() {
         if *present {
             facts.push(copy_atom(alloc, fact)?)?;
+        }
+    }
+    Ok(facts)
+}
+
+/// Adds a copy of the fact, where it is an instance of the pattern.
+fn pick(alloc: Global, pattern: &Atom, fact: &Atom, facts: &mut Vec<Atom>) -> Result<(), AllocError>
+    ensures { OnOk result (IsPicked (IsInstance pattern.now) fact.now facts.old.items facts.new.items) }
+{
+    if is_instance(alloc, pattern, fact)? {
+        facts.push(copy_atom(alloc, fact)?)?;
+        return Ok(());
+    }
+    Ok(())
+}
+
+/// Copies of the facts that are present and are instances of the pattern, in order.
+pub(crate) fn copy_matching(
+    alloc: Global,
+    entries: &BTreeMap<Atom, bool>,
+    pattern: &Atom,
+) -> Result<Vec<Atom>, AllocError>
+    ensures { IfOk result (λ facts. IsSelection (IsInstance pattern.now) (present entries.now.entries) facts.items) }
+{
+    let mut facts = Vec::new(alloc);
+    for (fact, present) in entries.iter() {
+        if *present {
+            pick(alloc, pattern, fact, &mut facts)?;
         }
     }
     Ok(facts)

@@ -1,10 +1,12 @@
-ghost use Rattle.std.specs.Prelude.{◌≡◌, ◌≤◌, ◌<◌, ◌-◌, [], Bool, true, false, not, length, IfOk, OnOk, is_ok, if◌then◌else◌};
+ghost use Rattle.std.specs.Prelude.{◌≡◌, ◌≤◌, ◌<◌, ◌-◌, [], Bool, true, false, not, length, ◌↔◌, IfOk, IsTrue, OnOk, is_ok, if◌then◌else◌};
 ghost use Rattle.std.specs.List.Sorted.{IsStrictlySortedBy};
 ghost use Rattle.lps_terms.specs.Order.{atom_cmp};
+ghost use Rattle.lps_terms.specs.declared.atom.Atom.{Atom};
+ghost use Rattle.lps_facts.specs.Matching.{IsInstance};
 ghost use Rattle.lps_facts.specs.Facts.{back_to, is_among, members, then_change, will_change, with_effects, with_fact, with_facts, IsLater};
 
 use crate::change::Change;
-use crate::entries::{copy_present, is_present, make_room, set_present};
+use crate::entries::{copy_matching, copy_present, is_present, make_room, set_present};
 use crate::mark::Mark;
 use lps_terms::{Atom, Effects, copy_atom};
 use std::alloc::{AllocError, Global};
@@ -161,6 +163,14 @@ impl Facts {
         while self.trail.len() > mark.changes() {
             self.undo_last();
         }
+    }
+
+    /// The facts that are instances of the pattern, in order, each once.
+    pub fn matching(&self, alloc: Global, pattern: &Atom) -> Result<Vec<Atom>, AllocError>
+        ensures instances { IfOk result (λ found. (fact : Atom) → IsTrue (is_among found.items fact) ↔ (IsTrue (is_among (members self.now) fact) × IsInstance pattern.now fact)) }
+        ensures sorted { IfOk result (λ found. IsStrictlySortedBy atom_cmp found.items) }
+    {
+        copy_matching(alloc, &self.entries, pattern)
     }
 
     /// All facts, in order.

@@ -10,6 +10,7 @@ mod entries;
 mod facts;
 mod laws;
 mod mark;
+mod matching;
 
 pub use change::Change;
 pub use facts::Facts;

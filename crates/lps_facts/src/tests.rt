@@ -5,13 +5,32 @@ use std::alloc::Global;
 use std::process::Abort;
 use std::test::Fail;
 
-/// `p(a)`, with this constant.
-fn fact(alloc: Global, constant: &str) -> Result<Atom, Fail> {
+/// The variable `X`, or else the constant.
+fn term(alloc: Global, word: &str) -> Result<Term, Fail> {
+    if word == "X" {
+        return Ok(Term::Var(0));
+    }
+    let name = Name::new(alloc, word.as_bytes())?.ok_or("no name")?;
+    Ok(Term::Sym(name))
+}
+
+/// `p(word)`
+fn fact(alloc: Global, word: &str) -> Result<Atom, Fail> {
     let name = Name::new(alloc, b"p")?.ok_or("no name")?;
-    let constant = Name::new(alloc, constant.as_bytes())?.ok_or("no name")?;
     Ok(Atom {
         name,
-        args: args_of(vec![in alloc; Term::Sym(constant)]?),
+        args: args_of(vec![in alloc; term(alloc, word)?]?),
+    })
+}
+
+/// `q(left, right)`
+fn pair(alloc: Global, left: &str, right: &str) -> Result<Atom, Fail> {
+    let name = Name::new(alloc, b"q")?.ok_or("no name")?;
+    let left = term(alloc, left)?;
+    let right = term(alloc, right)?;
+    Ok(Atom {
+        name,
+        args: args_of(vec![in alloc; left, right]?),
     })
 }
 
@@ -23,16 +42,31 @@ fn change(alloc: Global, facts: &mut Facts, inserted: bool, constant: &str) -> R
     Ok(facts.remove(&fact)?)
 }
 
-/// Checks the facts, each printed with a space after it.
-fn check(rt: &impl Abort, alloc: Global, facts: &Facts, expected: &str) -> Result<(), Fail> {
-    let sorted = facts.sorted(alloc)?;
+/// Checks these facts, each printed with a space after it.
+fn check_list(rt: &impl Abort, alloc: Global, facts: &[Atom], expected: &str) -> Result<(), Fail> {
     let mut text = Vec::new(alloc);
-    for fact in sorted.as_slice() {
+    for fact in facts {
         print_atom(fact, &mut text)?;
         text.push(b' ')?;
     }
     assert_eq!(rt; text.as_slice(), expected.as_bytes());
     Ok(())
+}
+
+fn check(rt: &impl Abort, alloc: Global, facts: &Facts, expected: &str) -> Result<(), Fail> {
+    let sorted = facts.sorted(alloc)?;
+    check_list(rt, alloc, sorted.as_slice(), expected)
+}
+
+fn check_found(
+    rt: &impl Abort,
+    alloc: Global,
+    facts: &Facts,
+    pattern: &Atom,
+    expected: &str,
+) -> Result<(), Fail> {
+    let found = facts.matching(alloc, pattern)?;
+    check_list(rt, alloc, found.as_slice(), expected)
 }
 
 #[test]
@@ -80,4 +114,21 @@ fn effects(rt: HostRuntime) -> Result<(), Fail> {
 fn laws(_rt: HostRuntime) {
     members_after_changes();
     changes_go_back();
+}
+
+#[test]
+fn matching(rt: HostRuntime) -> Result<(), Fail> {
+    let alloc = rt.alloc();
+    let mut facts = Facts::new(alloc);
+    for constant in ["b", "a"] {
+        facts.insert(&fact(alloc, constant)?)?;
+        facts.insert(&pair(alloc, "a", constant)?)?;
+    }
+    for (pattern, expected) in [("X", "p(a) p(b) "), ("a", "p(a) "), ("c", "")] {
+        check_found(&rt, alloc, &facts, &fact(alloc, pattern)?, expected)?;
+    }
+    for (left, right, expected) in [("X", "X", "q(a, a) "), ("a", "X", "q(a, a) q(a, b) ")] {
+        check_found(&rt, alloc, &facts, &pair(alloc, left, right)?, expected)?;
+    }
+    Ok(())
 }
