@@ -1,6 +1,6 @@
 -- What is read after a token that is passed.
-use Rattle.std.specs.Prelude.{ℕ, zero, suc, ◌-◌, ◌<◌, ◌≡◌, ◌++◌, List, [], ◌∷◌, Some}
-use Rattle.std.proofs.Common.{◌∙◌, sym, ap, arith}
+use Rattle.std.specs.Prelude.{ℕ, zero, suc, ◌-◌, ◌<◌, ◌≡◌, ◌++◌, List, [], ◌∷◌, length, Option, Some, None}
+use Rattle.std.proofs.Common.{◌∙◌, refl, sym, ap, arith}
 use Rattle.lps_terms.specs.declared.term.Term.{Term}
 use Rattle.lps_terms.specs.declared.op.Op.{Op}
 use Rattle.lps_terms.specs.declared.expr.Expr.{Expr}
@@ -8,6 +8,12 @@ use Rattle.lps_terms.specs.declared.expr.Expr.TheVariants.{Apply}
 use Rattle.lps_grammar.specs.declared.tok.Tok.{Tok}
 use Rattle.lps_grammar.specs.declared.tok.Tok.TheVariants as k
 use Rattle.lps_build.specs.ReadTerms.{args_in, more_in, term_in, then_in}
+use Rattle.lps_build.specs.ReadItems.{after_separator, comma_in, item_in, more_parts_in, parts_in}
+use Rattle.lps_build.specs.ReadStatements.{alternatives_in, decl_in, or_in, statement_in, text_in}
+use Rattle.lps_terms.specs.declared.item.Item.{Item}
+use Rattle.lps_terms.specs.declared.decl.Decl.{Decl}
+use Rattle.lps_terms.specs.declared.kind.Kind.{Kind}
+use Rattle.lps_terms.specs.declared.body.Body.{Body}
 use Rattle.lps_build.specs.ReadExpressions.{mul_op, add_op, op_case, unit_in, factors_in, prod_in, summands_in}
 
 pub open_step : (d : ℕ) (xs : List Term) (toks us : List Tok) → 0 < d → xs ≡ [] → toks ≡ k.Open ∷ us →
@@ -47,3 +53,94 @@ summand_step (suc d) before x e t toks us vs op h r o u a =
   where
     same : d ≡ suc d - 1
     same = omega arith
+
+pub part_step : {A : Type 0} (part : ℕ → List Tok → Option (A × List Tok)) (d e : ℕ) (before after : List A) (x : A) (toks us vs : List Tok) → 0 < d → e ≡ d - 1 → comma_in toks ≡ Some us →
+    part (d - 1) us ≡ Some (x, vs) → after ≡ before ++ x ∷ [] → more_parts_in part e after vs ≡ more_parts_in part d before toks
+part_step part zero e before after x toks us vs h m r p a = absurd (omega arith)
+part_step part (suc d) e before after x toks us vs h m r p a =
+    (λ i. more_parts_in part (less i) (a i) vs)
+    ∙ sym (ap (λ o. then_in o (λ y ws. more_parts_in part d (before ++ y ∷ []) ws)) (ap (λ n. part n us) (sym same) ∙ p))
+    ∙ sym (ap (λ found. after_separator found (Some (before, toks)) (λ ws. then_in (part d ws) (λ y zs. more_parts_in part d (before ++ y ∷ []) zs))) r)
+  where
+    same : suc d - 1 ≡ d
+    same = omega arith
+
+    less : e ≡ d
+    less = m ∙ same
+
+-- where no comma stands, no part follows
+pub parts_end : {A : Type 0} (part : ℕ → List Tok → Option (A × List Tok)) (d : ℕ) (before : List A) (toks : List Tok) → comma_in toks ≡ None →
+    more_parts_in part d before toks ≡ Some (before, toks)
+parts_end part zero before toks none = refl
+parts_end part (suc d) before toks none =
+    ap (λ found. after_separator found (Some (before, toks)) (λ ws. then_in (part d ws) (λ y zs. more_parts_in part d (before ++ y ∷ []) zs))) none
+
+-- where a comma stands and no part after it, there are none
+pub part_missing : {A : Type 0} (part : ℕ → List Tok → Option (A × List Tok)) (d : ℕ) (before : List A) (toks us : List Tok) → 0 < d → comma_in toks ≡ Some us →
+    part (d - 1) us ≡ None → more_parts_in part d before toks ≡ None
+part_missing part zero before toks us h r p = absurd (omega arith)
+part_missing part (suc d) before toks us h r p =
+    ap (λ found. after_separator found (Some (before, toks)) (λ ws. then_in (part d ws) (λ y zs. more_parts_in part d (before ++ y ∷ []) zs))) r
+    ∙ ap (λ o. then_in o (λ y zs. more_parts_in part d (before ++ y ∷ []) zs)) (ap (λ n. part n us) (sym same) ∙ p)
+  where
+    same : suc d - 1 ≡ d
+    same = omega arith
+
+-- where no `or` stands, no alternative follows
+pub alternatives_end : (d : ℕ) (before : List (List Item)) (toks : List Tok) → or_in toks ≡ None → alternatives_in d before toks ≡ Some (before, toks)
+alternatives_end zero before toks none = refl
+alternatives_end (suc d) before toks none =
+    ap (λ found. after_separator found (Some (before, toks)) (λ ws. then_in (parts_in item_in d ws) (λ y zs. alternatives_in d (before ++ y ∷ []) zs))) none
+
+-- where `or` stands and no alternative after it, there are none
+pub alternative_missing : (d : ℕ) (before : List (List Item)) (toks us : List Tok) → 0 < d → or_in toks ≡ Some us → parts_in item_in (d - 1) us ≡ None → alternatives_in d before toks ≡ None
+alternative_missing zero before toks us h r p = absurd (omega arith)
+alternative_missing (suc d) before toks us h r p =
+    ap (λ found. after_separator found (Some (before, toks)) (λ ws. then_in (parts_in item_in d ws) (λ y zs. alternatives_in d (before ++ y ∷ []) zs))) r
+    ∙ ap (λ o. then_in o (λ y zs. alternatives_in d (before ++ y ∷ []) zs)) (ap (λ n. parts_in item_in n us) (sym same) ∙ p)
+  where
+    same : suc d - 1 ≡ d
+    same = omega arith
+
+pub alternative_step : (d e : ℕ) (before after : List (List Item)) (x : List Item) (toks us vs : List Tok) → 0 < d → e ≡ d - 1 → or_in toks ≡ Some us →
+    parts_in item_in (d - 1) us ≡ Some (x, vs) → after ≡ before ++ x ∷ [] → alternatives_in e after vs ≡ alternatives_in d before toks
+alternative_step zero e before after x toks us vs h m r p a = absurd (omega arith)
+alternative_step (suc d) e before after x toks us vs h m r p a =
+    (λ i. alternatives_in (less i) (a i) vs)
+    ∙ sym (ap (λ o. then_in o (λ y ws. alternatives_in d (before ++ y ∷ []) ws)) (ap (λ n. parts_in item_in n us) (sym same) ∙ p))
+    ∙ sym (ap (λ found. after_separator found (Some (before, toks)) (λ ws. then_in (parts_in item_in d ws) (λ y zs. alternatives_in d (before ++ y ∷ []) zs))) r)
+  where
+    same : suc d - 1 ≡ d
+    same = omega arith
+
+    less : e ≡ d
+    less = m ∙ same
+
+-- where no token is left, no statement follows
+pub text_ends : (total d : ℕ) (before : List (ℕ × Body)) (toks : List Tok) → length toks ≡ 0 → text_in total d before toks ≡ Some (before, toks)
+text_ends total zero before toks none = refl
+text_ends total (suc d) before [] none = refl
+text_ends total (suc d) before (t ∷ ts) none = absurd (omega (arith, none))
+
+-- where tokens are left that begin with no statement, there is none
+pub statement_missing : (total d : ℕ) (before : List (ℕ × Body)) (toks : List Tok) → 0 < d → 0 < length toks → statement_in d toks ≡ None → text_in total d before toks ≡ None
+statement_missing total zero before toks h some p = absurd (omega arith)
+statement_missing total (suc d) before [] h some p = absurd (omega (arith, some))
+statement_missing total (suc d) before (t ∷ ts) h some p =
+    ap (λ o. then_in o (λ x us. text_in total d (before ++ (total - length (t ∷ ts), x) ∷ []) us)) p
+
+pub statement_step : (total d e place : ℕ) (before after : List (ℕ × Body)) (x : Body) (toks us : List Tok) → 0 < d → 0 < length toks → e ≡ d - 1 → statement_in d toks ≡ Some (x, us) →
+    place ≡ total - length toks → after ≡ before ++ (place, x) ∷ [] → text_in total e after us ≡ text_in total d before toks
+statement_step total zero e place before after x toks us h some m p q a = absurd (omega arith)
+statement_step total (suc d) e place before after x [] us h some m p q a = absurd (omega (arith, some))
+statement_step total (suc d) e place before after x (t ∷ ts) us h some m p q a =
+    (λ i. text_in total (less i) (a i) us)
+    ∙ ap (λ n. text_in total d (before ++ (n, x) ∷ []) us) q
+    ∙ sym (ap (λ o. then_in o (λ y vs. text_in total d (before ++ (total - length (t ∷ ts), y) ∷ []) vs)) p)
+  where
+    less : e ≡ d
+    less = m ∙ omega arith
+
+pub decl_step : (kind : Kind) (d e : ℕ) (before after : List Decl) (x : Decl) (toks us vs : List Tok) → 0 < d → e ≡ d - 1 → comma_in toks ≡ Some us →
+    decl_in kind (d - 1) us ≡ Some (x, vs) → after ≡ before ++ x ∷ [] → more_parts_in (decl_in kind) e after vs ≡ more_parts_in (decl_in kind) d before toks
+decl_step kind = part_step (decl_in kind)

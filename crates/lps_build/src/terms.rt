@@ -3,14 +3,15 @@ ghost use Rattle.lps_build.specs.Meaning.{call_of, minus};
 ghost use Rattle.lps_build.specs.ReadTerms.{args_in, atom_in, leaf_in, more_in, negative_in, term_in, then_in};
 
 use lps_grammar::{Tok, Word};
-use lps_terms::{Atom, Name, Term};
+use lps_terms::{Args, Atom, Name, Term};
 use sqlite_items::Items;
 use std::alloc::{AllocError, Global};
 
 /// One more than the greatest integer.
 const INTEGERS: u64 = 9223372036854775808;
 
-fn minus(n: u64) -> i64
+/// The number with a minus sign before it.
+pub fn minus(n: u64) -> i64
     requires { n ≤ 9223372036854775808 }
     ensures { result ≡ minus n }
 {
@@ -40,13 +41,13 @@ pub fn leaf(toks: &[Tok]) -> Option<(Term, &[Tok])>
 }
 
 /// A constant, or a function with its arguments.
-fn call(name: Name, args: Vec<Term>) -> Term
-    ensures { result ≡ call_of name args.items }
+pub fn call(name: Name, args: Args) -> Term
+    ensures { result ≡ call_of name args }
 {
     if args.is_empty() {
         Term::Sym(name)
     } else {
-        Term::App(name, Items::from_vec(args))
+        Term::App(name, args)
     }
 }
 
@@ -70,7 +71,7 @@ pub fn term<'a>(
             let Some((args, left)) = args(alloc, rest, limit - 1)? else {
                 return Ok(None);
             };
-            Ok(Some((call(name, args), left)))
+            Ok(Some((call(name, Items::from_vec(args)), left)))
         }
         _ => Ok(leaf(toks)),
     }
