@@ -5,3 +5,4 @@ pub mod ExpressionTrees
 pub mod Stops
 pub mod ItemTrees
 pub mod StatementTrees
+pub mod LineTrees

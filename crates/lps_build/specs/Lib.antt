@@ -5,3 +5,4 @@ pub mod ReadItems
 pub mod Fits
 pub mod Ends
 pub mod ReadStatements
+pub mod ReadLines

@@ -32,6 +32,7 @@ use Rattle.lps_grammar.specs.declared.tok.Tok.TheVariants as k
 use Rattle.lps_grammar.specs.Terms as g
 use Rattle.lps_grammar.specs.Expressions as ge
 use Rattle.lps_grammar.specs.Items as gi
+use Rattle.lps_grammar.specs.Lines as gl
 use Rattle.lps_grammar.specs.Statements as gs
 
 -- the number with a sign before it
@@ -258,3 +259,17 @@ body_of (gs.clause a cs) = bd.Clause (atom_of a) (conditions_of cs)
 abbrev pub bodies_of : ℕ → gs.Text → List (ℕ × Body)
 bodies_of total gs.done = []
 bodies_of total (gs.next x xs) = (total - length (gs.spell_text (gs.next x xs) []), body_of x) ∷ bodies_of total xs
+
+-- the events after a first one
+abbrev pub more_events_of : gl.MoreEvents → List Atom
+more_events_of gl.no_event = []
+more_events_of (gl.also_event x xs) = atom_of x ∷ more_events_of xs
+
+-- the events of a line
+abbrev pub events_of : gl.Events → List Atom
+events_of gl.none = []
+events_of (gl.events x xs) = atom_of x ∷ more_events_of xs
+
+-- the number of a line and its events
+abbrev pub line_of : gl.Line → ℕ × List Atom
+line_of (gl.line n xs) = (n, events_of xs)

@@ -120,7 +120,7 @@ fn next_arg<'a>(
 fn more_args<'a>(
     alloc: Global,
     toks: &'a [Tok],
-    args: Vec<Term>,
+    mut args: Vec<Term>,
     limit: usize,
 ) -> Result<Option<(Vec<Term>, &'a [Tok])>, AllocError>
     ensures { IfOk result (λ found. MatchOption found (more_in limit args.items toks.now ≡ None) (λ p. more_in limit args.items toks.now ≡ Some (p.0.items, p.1.now))) }
@@ -130,7 +130,11 @@ fn more_args<'a>(
     }
     match toks {
         [Tok::Comma, rest @ ..] => next_arg(alloc, rest, args, limit - 1),
-        [Tok::Close, rest @ ..] => Ok(Some((args, rest))),
+        [Tok::Close, rest @ ..] => {
+            // Most lists are short, and a text keeps each of them.
+            args.shrink_to_fit();
+            Ok(Some((args, rest)))
+        }
         _ => Ok(None),
     }
 }

@@ -1,7 +1,7 @@
 //! A token is one byte: a lower-case letter is a name, `V` a variable, `T` a time, a digit a number, `!` is `not`, `@` is
 //! `at`, `F` is `fluent`, `M` is `macro`, `I` is `initially`, `N` is `false`, `R` is `if`, `H` is `then`, `O` is `or`, `S` is
 //! `initiates`, `A` is `from`, `B` is `to`; signs stand for themselves.
-use crate::{atom, build_text, cond, expr, item, parts, parts_are_read};
+use crate::{atom, build_line, build_text, cond, expr, item, parts, parts_are_read};
 use lps_grammar::{Tok, Word};
 use lps_terms::{Body, Built, Cond, Expr, Item, Op, TimeRel, TimeVar, print_atom};
 use std::alloc::{AllocError, Global};
@@ -15,6 +15,7 @@ fn tok(alloc: Global, byte: u8) -> Result<Tok, AllocError> {
         b'=' => Tok::Equal,
         b'<' => Tok::Less,
         b'/' => Tok::Slash,
+        b':' => Tok::Colon,
         b'F' => Tok::Fluent,
         b'M' => Tok::Macro,
         b'I' => Tok::Initially,
@@ -166,6 +167,22 @@ fn texts(rt: HostRuntime) -> Result<(), AllocError> {
             forms.push((*place, form(body)))?;
         }
         assert!(rt; forms.as_slice() == want);
+    }
+    Ok(())
+}
+
+#[test]
+fn lines(rt: HostRuntime) -> Result<(), AllocError> {
+    let table: [(&[u8], Option<(u64, usize)>); 4] = [
+        (b"7:.", Some((7, 0))),
+        (b"1:e,e(2,a).", Some((1, 2))),
+        (b"1:e", None),
+        (b":e.", None),
+    ];
+    for (tokens, want) in table {
+        let toks = toks(rt.alloc(), tokens)?;
+        let found = build_line(rt.alloc(), toks.as_slice())?;
+        assert!(rt; found.map(|(number, events)| (number, events.len())) == want);
     }
     Ok(())
 }
