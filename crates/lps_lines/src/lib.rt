@@ -12,7 +12,7 @@ mod line_buffer;
 #[cfg(test)]
 mod tests;
 
-pub use ahead::{Ahead, look_ahead};
+pub use ahead::{Ahead, LONGEST_LINE, look_ahead};
 pub use front::Front;
 pub use laws::{lines_are_those_of_the_rules, more_bytes_change_no_line};
 pub use line::is_skipped;

@@ -128,7 +128,7 @@ number_stays names now text (more, longer) none =
     number_named now text none ∙ ap (λ xs. place_of xs text) (sym longer)
     ∙ place_stays (with_name names text) more text (omega (arith, place, is.inside)) ∙ place
 
-stays_there : (names now : List (List ℕ)) (text : List ℕ) → GoOn (with_name names text) now → (number_of names text < length now) × (get_or now (number_of names text) [] ≡ text)
+pub stays_there : (names now : List (List ℕ)) (text : List ℕ) → GoOn (with_name names text) now → (number_of names text < length now) × (get_or now (number_of names text) [] ≡ text)
 stays_there names now text (more, longer) =
     let is = entering names text in
     let size = length-append (with_name names text) more in
@@ -149,7 +149,7 @@ one_name names now text later on same =
 abbrev pub GoesOn : Names → Names → Type 0
 GoesOn names now = GoOn names.names now.names × GoOn names.times now.times
 
-on_refl : (names : List (List ℕ)) → GoOn names names
+pub on_refl : (names : List (List ℕ)) → GoOn names names
 on_refl names = ([], append-nil names)
 
 on_trans : (a b c : List (List ℕ)) → GoOn a b → GoOn b c → GoOn a c
@@ -158,7 +158,7 @@ on_trans a b c (more, longer) (rest, last) = (more ++ rest, sym (append_assoc a 
 on_entering : (names : List (List ℕ)) (text : List ℕ) → GoOn names (with_name names text)
 on_entering names text = let is = entering names text in (is.more, is.longer)
 
-entered_goes_on : (so_far : Names) (kind : TokenKind) (text : List ℕ) → GoesOn so_far (entered so_far kind text)
+pub entered_goes_on : (so_far : Names) (kind : TokenKind) (text : List ℕ) → GoesOn so_far (entered so_far kind text)
 entered_goes_on so_far kind.Time text = (on_refl so_far.names, on_entering so_far.times text)
 entered_goes_on so_far kind.Variable text = (on_entering so_far.names text, on_refl so_far.times)
 entered_goes_on so_far kind.Name text = (on_refl so_far.names, on_refl so_far.times)
@@ -166,7 +166,7 @@ entered_goes_on so_far kind.Reserved text = (on_refl so_far.names, on_refl so_fa
 entered_goes_on so_far kind.Number text = (on_refl so_far.names, on_refl so_far.times)
 entered_goes_on so_far kind.Sign text = (on_refl so_far.names, on_refl so_far.times)
 
-goes_trans : (a b c : Names) → GoesOn a b → GoesOn b c → GoesOn a c
+pub goes_trans : (a b c : Names) → GoesOn a b → GoesOn b c → GoesOn a c
 goes_trans a b c first last = (on_trans a.names b.names c.names first.0 last.0, on_trans a.times b.times c.times first.1 last.1)
 
 after_goes_on : (bytes : List ℕ) (so_far : Names) (token : Token) → IsNoStop bytes token → GoesOn so_far (names_after bytes so_far token)

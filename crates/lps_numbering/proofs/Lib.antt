@@ -1,4 +1,4 @@
-mod Alike
+pub mod Alike
 mod Folds
 mod Spelled
-mod Written
+pub mod Written

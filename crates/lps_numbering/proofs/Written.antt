@@ -1,4 +1,4 @@
--- Names by number: where one stands, and that variables and times are names.
+-- Names by number: where one stands, and that names, variables and times are names.
 use Rattle.std.specs.Prelude.{ℕ, ◌≡◌, ◌≤◌, Bool, true, false, List, [], ◌∷◌, length, nat_lt, nat_le, not, ◌&&◌, if◌then◌else◌, Some, None, refl}
 use Rattle.std.specs.List.{position, position_or_len, list_all}
 use Rattle.std.proofs.Common.{◌∙◌, ap, arith}
@@ -6,9 +6,9 @@ use Rattle.std.proofs.lemmas.Bool.{le-leb, lt-ltb}
 use Rattle.std.proofs.lemmas.Bool.Decides.{nat_tests}
 use Rattle.std.proofs.lemmas.List.Sums.{prefix_len-le-length}
 use Rattle.lps_terms.specs.Names.{is_name, is_word_byte}
-use Rattle.lps_lex.specs.Forms.{IsTime, IsVariable}
+use Rattle.lps_lex.specs.Forms.{IsName, IsTime, IsVariable}
 use Rattle.lps_lex.proofs.Bytes.{both}
-use Rattle.lps_lex.proofs.Words.{IsWord, time_word, variable_word}
+use Rattle.lps_lex.proofs.Words.{IsWord, name_word, time_word, variable_word}
 
 -- the place after the last, where none passes
 pub none_passes : (p : List ℕ → Bool) (xs : List (List ℕ)) → position p xs ≡ None → length xs ≡ position_or_len p xs
@@ -32,3 +32,6 @@ time_name text form short = word_name text (time_word text form) short
 
 pub variable_name : (text : List ℕ) → IsVariable text → length text ≤ 64 → is_name text ≡ true
 variable_name text form short = word_name text (variable_word text form) short
+
+pub proper_name : (text : List ℕ) → IsName text → length text ≤ 64 → is_name text ≡ true
+proper_name text form short = word_name text (name_word text form) short

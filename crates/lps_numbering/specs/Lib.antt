@@ -1,3 +1,4 @@
 pub mod Fixed
 pub mod Laws
 pub mod Numbers
+pub mod Plain

@@ -10,6 +10,7 @@ mod laws;
 mod names;
 mod numbered;
 mod numbering;
+mod plain;
 #[cfg(test)]
 mod tests;
 
@@ -17,3 +18,4 @@ pub use laws::{equal_numbers_are_equal_names, fixed_tokens_are_spelled, numbers_
 pub use names::Names;
 pub use numbered::Numbered;
 pub use numbering::number;
+pub use plain::plain_toks;

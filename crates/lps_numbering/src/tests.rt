@@ -3,7 +3,7 @@ ghost use Rattle.std.specs.Prelude.{◌≤◌, length};
 
 use crate::{
     Names, Numbered, equal_numbers_are_equal_names, fixed_tokens_are_spelled, number,
-    numbers_lead_to_names,
+    numbers_lead_to_names, plain_toks,
 };
 use lps_grammar::Tok;
 use lps_lex::lex;
@@ -138,5 +138,18 @@ fn reads_words_and_signs(rt: HostRuntime) -> Result<(), AllocError> {
         let text = format!(in rt.alloc(); "{:?}", found.toks)?;
         assert!(rt; text.as_str() == want);
     }
+    Ok(())
+}
+
+#[test]
+fn tokens_are_taken_by_themselves(rt: HostRuntime) -> Result<(), AllocError> {
+    let bytes = b"12: a, X, Y.".as_slice();
+    let found = lex(rt.alloc(), bytes)?;
+    let toks = plain_toks(rt.alloc(), bytes, found.tokens.as_slice())?;
+    let mut out = Vec::new(rt.alloc());
+    for tok in toks.as_slice() {
+        show_tok(&mut out, tok)?;
+    }
+    assert!(rt; out.as_slice() == b"2aV0V0.".as_slice());
     Ok(())
 }
