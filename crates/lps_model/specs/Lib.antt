@@ -1,9 +1,7 @@
 pub mod Program
-pub mod Kinds
+pub mod Signatures
 pub mod Trace
 pub mod Holds
 pub mod Report
 pub mod Run
 pub mod Laws
-pub mod SmallText
-pub mod SmallStream

@@ -9,13 +9,12 @@ use Rattle.lps_terms.specs.Order.{atom_cmp}
 use Rattle.lps_model.specs.declared.verdict.Verdict.TheVariants.{Admitted}
 use Rattle.lps_model.specs.declared.cycle.Cycle.{Cycle}
 use Rattle.lps_model.specs.declared.trace.Trace.{Trace}
-use Rattle.lps_model.specs.Program.{kind_of, initial_atoms}
+use Rattle.lps_model.specs.Program.{signature_of, initial_atoms}
 use Rattle.lps_model.specs.Trace.{then_cycle}
 
--- an event that a batch may bring: a declared event, with its number of arguments, which is 0 in the texts built so far
-pub record IsExternal (text : Text) (event : Atom) : Type 0 where
-  pub kind : kind_of text event.name ≡ Some k.Event
-  pub args : event.args ≡ []
+-- an event that a batch may bring: a declared event, with its number of arguments
+abbrev pub IsExternal : Text → Atom → Type 0
+IsExternal text event = signature_of text event.name ≡ Some (record { kind = k.Event; arity = length event.args })
 
 -- The cycle may follow the trace. Texts built so far have no denials, so each event is admitted, and no rules, so nothing
 -- is picked.

@@ -1,17 +1,17 @@
 ghost use Rattle.std.specs.Prelude.{◌≡◌, IfOk};
-ghost use Rattle.lps_model.specs.Kinds.{IsTableOf};
-ghost use Rattle.lps_model.specs.Program.{declarations, kind_of};
+ghost use Rattle.lps_model.specs.Signatures.{IsTableOf};
+ghost use Rattle.lps_model.specs.Program.{declarations, signature_of};
 
-use crate::Kinds;
-use lps_terms::{Kind, Name, Text};
+use crate::{Signature, Signatures};
+use lps_terms::{Name, Text};
 use std::alloc::{AllocError, Global};
 use std::marker::Model;
 
-/// A text with the table of its kinds, so that the kind of a name is found at once. Contracts see the text.
+/// A text with the table of its signatures, so that the signature of a name is found at once. Contracts see the text.
 #[derive(Drop)]
 pub struct Accepted {
     text: Text,
-    kinds: Kinds,
+    signatures: Signatures,
 }
 
 impl Model for Accepted {
@@ -19,7 +19,7 @@ impl Model for Accepted {
     ghost use Rattle.lps_terms.specs.contracts.expr.Expr as expr;
     ghost use Rattle.lps_terms.specs.contracts.term.Term as term;
     ghost use Rattle.std.specs.Coded.{codes};
-    ghost use Rattle.lps_model.specs.Kinds.{IsTableOf};
+    ghost use Rattle.lps_model.specs.Signatures.{IsTableOf};
     ghost use Rattle.lps_model.specs.Program.{declarations};
 
     ghost Value = { Text };
@@ -28,7 +28,7 @@ impl Model for Accepted {
 
     ghost view = { λ accepted. accepted.text };
 
-    ghost invariant = { λ accepted. IsTableOf (declarations accepted.text) accepted.kinds };
+    ghost invariant = { λ accepted. IsTableOf (declarations accepted.text) accepted.signatures };
 }
 
 impl Accepted {
@@ -36,8 +36,8 @@ impl Accepted {
     pub fn new(alloc: Global, text: Text) -> Result<Accepted, AllocError>
         ensures { IfOk result (λ accepted. accepted ≡ text) }
     {
-        let kinds = kinds_of(alloc, &text)?;
-        Ok(Accepted { text, kinds })
+        let signatures = signatures_of(alloc, &text)?;
+        Ok(Accepted { text, signatures })
     }
 
     pub fn text(&self) -> &Text
@@ -46,21 +46,21 @@ impl Accepted {
         &self.text
     }
 
-    /// The kind of a name, where the text declares it.
-    pub fn kind(&self, name: &Name) -> Option<Kind>
-        ensures { result ≡ kind_of self.now name.now }
+    /// The signature of a name, where the text declares it.
+    pub fn signature(&self, name: &Name) -> Option<Signature>
+        ensures { result ≡ signature_of self.now name.now }
     {
-        self.kinds.kind(name)
+        self.signatures.signature(name)
     }
 }
 
 /// The table of the declarations of a text.
-fn kinds_of(alloc: Global, text: &Text) -> Result<Kinds, AllocError>
-    ensures { IfOk result (λ kinds. IsTableOf (declarations text.now) kinds) }
+fn signatures_of(alloc: Global, text: &Text) -> Result<Signatures, AllocError>
+    ensures { IfOk result (λ signatures. IsTableOf (declarations text.now) signatures) }
 {
-    let mut kinds = Kinds::new(alloc);
+    let mut signatures = Signatures::new(alloc);
     for statement in text.statements.as_slice() {
-        kinds.declare_all(alloc, &statement.body)?;
+        signatures.declare_all(alloc, &statement.body)?;
     }
-    Ok(kinds)
+    Ok(signatures)
 }

@@ -7,15 +7,19 @@
 #![tactic(auto)]
 
 mod accepted;
+mod batch;
 mod cycle;
-mod kinds;
 mod laws;
+mod signature;
+mod signatures;
 mod trace;
 mod verdict;
 
 pub use accepted::Accepted;
+pub use batch::Batch;
 pub use cycle::{Cycle, Group, Pick};
-pub use kinds::Kinds;
 pub use laws::{growth_law, state_law, unique_law};
+pub use signature::Signature;
+pub use signatures::Signatures;
 pub use trace::Trace;
 pub use verdict::Verdict;

@@ -1,0 +1,11 @@
+pub mod Named
+pub mod Read
+pub mod Fronts
+pub mod Outcomes
+pub mod Parts
+pub mod OneWay
+pub mod Steps
+pub mod Cutting
+pub mod Calls
+pub mod Pieces
+pub mod Few

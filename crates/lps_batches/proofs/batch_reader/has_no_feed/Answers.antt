@@ -1,0 +1,9 @@
+use Rattle.std.proofs.Common.{rules, tests}
+use Rattle.std.proofs.lemmas.Iterator.{YieldsList-from_slice}
+use Rattle.std.proofs.lemmas.Iterator.Consumers.{YieldsList-from_copied}
+use Rattle.std.proofs.lemmas.Iterator.Search.{all_from_yields_List}
+use Rattle.lps_lines.specs.Lines.{is_no_feed}
+use Rattle.lps_batches.proofs.batch_reader.has_no_feed.Goals as goal
+
+pub returns : goal.returns
+returns c = all_from_yields_List is_no_feed _ _ _ c.all.ensures.ran (YieldsList-from_copied (YieldsList-from_slice c.args.bytes.now cc)) (λ x b q k. search (rules, tests))
