@@ -1,5 +1,2 @@
-pub mod Cut
-pub mod Reading
-pub mod ReadText
-pub mod Batch
-pub mod Grammar
+pub mod Made
+pub mod Texts

@@ -1,24 +1,20 @@
-//! Reads the small form of texts, and of the batch lines of a stream.
+//! Reads the bytes of a text, and passes on the reader of a stream's batches and the printer of texts.
 //!
-//! It stands on the data of texts and on the definitions of what they mean, and never knows of files, of states or of
-//! cycles. It carries that exactly the texts and lines of the grammar are read, each as what it spells: the clauses of
-//! `read_text` and `read_batch`, and the laws of `grammar`.
+//! It stands on the first refusal of a text and on the builder of its statements, and never knows how either finds its way,
+//! nor of files, states or cycles. It carries that exactly the texts of the grammar within the limits are read, each as what it
+//! spells, and that all others are refused with the first refusal: the clause of `read_text`, with the law
+//! `texts_are_unique`.
 #![tactic(auto)]
 
-mod batch;
-mod bodies;
-mod cut;
-mod grammar;
-mod judge;
-mod line;
-mod names;
+mod laws;
 mod read_error;
-mod reading;
+mod statements;
 #[cfg(test)]
 mod tests;
 mod text;
 
-pub use batch::read_batch;
-pub use grammar::{reads_as_spelled, reads_batch_as_spelled};
+pub use laws::texts_are_unique;
+pub use lps_batches::{BatchBad, BatchReader, cutting_changes_nothing};
+pub use lps_printer::print_text;
 pub use read_error::ReadError;
 pub use text::read_text;

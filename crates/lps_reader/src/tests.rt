@@ -1,151 +1,132 @@
-use crate::{ReadError, read_batch, read_text};
-use lps_model::Accepted;
-use lps_terms::{Kind, Name, ReadRefused, Text, TextRefused};
+use crate::{ReadError, print_text, read_text, texts_are_unique};
+use lps_terms::{LexRefused, ReadRefused};
 use std::alloc::Global;
+use std::process::Abort;
 use std::test::Fail;
 
-#[derive(Clone, Copy, Debug, PartialEq, Eq)]
-enum Outcome {
-    Statements(usize),
-    TooLong,
-    NotBuilt(u32),
-    Else,
-}
-
-fn outcome_of(alloc: Global, bytes: &[u8]) -> Outcome {
-    match read_text(alloc, bytes) {
-        Ok(text) => Outcome::Statements(text.statements.len()),
-        Err(ReadError::Refused(TextRefused::Read(ReadRefused::TextTooLong))) => Outcome::TooLong,
-        Err(ReadError::Refused(TextRefused::NotBuilt { line })) => Outcome::NotBuilt(line),
-        Err(_) => Outcome::Else,
-    }
+/// Checks the canonical text of a text.
+fn check_canonical(rt: &impl Abort, alloc: Global, text: &str, want: &str) -> Result<(), Fail> {
+    let read = read_text(alloc, text.as_bytes()).ok().ok_or("not read")?;
+    let bytes = print_text(alloc, &read)?;
+    assert_eq!(rt; bytes.as_slice(), want.as_bytes(), "{text}");
+    Ok(())
 }
 
 #[test]
-fn texts(rt: HostRuntime) {
+fn canonical_texts(rt: HostRuntime) -> Result<(), Fail> {
     for (text, want) in [
-        ("", Outcome::Statements(0)),
+        ("", ""),
+        ("% nothing\n\t\r\n", ""),
         (
-            "e initiates p.\nfluent p/0.\nevent e/0.\ninitially p.\ne terminates p.\n",
-            Outcome::Statements(5),
-        ),
-        ("fluent p/0.\nevent p/0.\n", Outcome::NotBuilt(2)),
-        (
-            "fluent p/0.\ninitially p.\np initiates p.\n",
-            Outcome::NotBuilt(3),
+            "fluent  p/0 ,q/001.initially q( -7 ),p.",
+            "fluent p/0, q/1.\ninitially q(-7), p.\n",
         ),
         (
-            "initially p.\nderived q.\nfluent p/0.\n",
-            Outcome::NotBuilt(2),
+            "timeless\nlen(*,-),max.derived full(+).",
+            "timeless len(*, -), max.\nderived full(+).\n",
         ),
         (
-            "initially q.\nderived q.\nfluent p/0.\n",
-            Outcome::NotBuilt(1),
+            "e(X)initiates p(s(X),_,_)if p(X,Y),not q,X\\=Y.",
+            "e(X) initiates p(s(X), _, _) if p(X, Y), not q, X \\= Y.\n",
         ),
-        ("fluent p/0.\ninitially p.", Outcome::NotBuilt(2)),
-        ("fluent p/1.\n", Outcome::NotBuilt(1)),
-        ("fluent mod/0.\n", Outcome::NotBuilt(1)),
-        ("\n", Outcome::NotBuilt(1)),
+        (
+            "a terminates p.q if X is((1+2))*-3 div(X mod 4)-0.",
+            "a terminates p.\nq if X is (1 + 2) * -3 div (X mod 4) - 0.\n",
+        ),
+        (
+            "q if((X*1)+Y)-(2-(3+4))=<(5),X=f(-0).",
+            "q if X * 1 + Y - (2 - (3 + 4)) =< 5, X = f(0).\n",
+        ),
     ] {
-        assert_eq!(rt; outcome_of(rt.alloc(), text.as_bytes()), want, "{text}");
-    }
-}
-
-#[test]
-fn long_texts(rt: HostRuntime) -> Result<(), Fail> {
-    let mut text = Vec::new(rt.alloc());
-    text.resize(1_048_576, b'x')?;
-    assert_eq!(rt;
-        outcome_of(rt.alloc(), text.as_slice()),
-        Outcome::NotBuilt(1)
-    );
-    text.push(b'x')?;
-    assert_eq!(rt; outcome_of(rt.alloc(), text.as_slice()), Outcome::TooLong);
-    Ok(())
-}
-
-fn small(alloc: Global) -> Result<Accepted, Fail> {
-    let text = "fluent p/0.\nevent e/0.\nevent g/0.\ne initiates p.\n";
-    let text: Text = read_text(alloc, text.as_bytes()).ok().ok_or("not read")?;
-    Ok(Accepted::new(alloc, text)?)
-}
-
-#[test]
-fn kinds(rt: HostRuntime) -> Result<(), Fail> {
-    let text = small(rt.alloc())?;
-    assert_eq!(rt; text.text().statements.len(), 4);
-    for (name, want) in [
-        ("p", Some(Kind::Fluent)),
-        ("g", Some(Kind::Event)),
-        ("q", None),
-    ] {
-        let name = Name::new(rt.alloc(), name.as_bytes())?.ok_or("no name")?;
-        assert_eq!(rt; text.kind(&name), want);
+        check_canonical(&rt, rt.alloc(), text, want)?;
     }
     Ok(())
 }
 
-/// How many events the line brings, and the bytes of the last one's name.
-fn brought(
-    alloc: Global,
-    text: &Accepted,
-    number: u64,
-    line: &[u8],
-) -> Result<Option<(usize, u8)>, Fail> {
-    match read_batch(alloc, text, number, line)? {
-        None => Ok(None),
-        Some(events) => {
-            let last = match events.as_slice() {
-                [.., event] => event.name.bytes().first().copied().unwrap_or(0),
-                _ => 0,
-            };
-            Ok(Some((events.len(), last)))
-        }
+#[test]
+fn canonical_rules(rt: HostRuntime) -> Result<(), Fail> {
+    for (text, want) in [
+        (
+            "false a(X)from T1 to T2,not p(X)at T2,X>0.",
+            "false a(X) from T1 to T2, not p(X) at T2, X > 0.\n",
+        ),
+        (
+            "if p at T then a from T1 to T2,T2=<T+3,T1>T-0 or b from T to T1,T1=T.",
+            "if p at T then a from T1 to T2, T2 =< T + 3, T1 > T or b from T to T1, T1 = T.\n",
+        ),
+        (
+            "walk(s(N))from T1 to T3 if step from T1 to T2,walk(N)from T2 to T3,T3<T1-1000000.",
+            "walk(s(N)) from T1 to T3 if step from T1 to T2, walk(N) from T2 to T3, T3 < T1 - 1000000.\n",
+        ),
+    ] {
+        check_canonical(&rt, rt.alloc(), text, want)?;
+        check_canonical(&rt, rt.alloc(), want, want)?;
     }
+    Ok(())
 }
 
 #[test]
-fn batches(rt: HostRuntime) -> Result<(), Fail> {
-    let text = small(rt.alloc())?;
-    for (number, line, want) in [
-        (1, "1: .", Some((0, 0))),
-        (12, "12: e.", Some((1, b'e'))),
-        (2, "2: e, e, g.", Some((3, b'g'))),
-        (1_000_000, "1000000: e.", Some((1, b'e'))),
-        (1_000_001, "1000001: e.", None),
-        (2, "1: e.", None),
-        (2, "02: e.", None),
-        (2, "2: e,g.", None),
-        (2, "2: e, p.", None),
-        (2, "2: e, q.", None),
-        (2, "2: e, .", None),
-        (2, "2: e", None),
-        (2, "2:e.", None),
-        (2, "", None),
+fn statements_have_lines(rt: HostRuntime) -> Result<(), Fail> {
+    let bytes = b"fluent p/0.\n% two\n\ninitially\np. q(X, _, X) from T to T1 if p at T. \n";
+    let text = read_text(rt.alloc(), bytes).ok().ok_or("not read")?;
+    assert_eq!(rt; text.statements.len(), 3);
+    let wanted = [(1, 0, 0), (4, 0, 0), (5, 2, 2)];
+    for (statement, (line, names, times)) in text.statements.as_slice().iter().zip(wanted) {
+        assert_eq!(rt; statement.line, line);
+        assert_eq!(rt; statement.names.len(), names);
+        assert_eq!(rt; statement.times.len(), times);
+    }
+    Ok(())
+}
+
+/// Why a text is refused, or none.
+fn refusal_of(alloc: Global, text: &str) -> Option<ReadError> {
+    read_text(alloc, text.as_bytes()).err()
+}
+
+#[test]
+fn refusals(rt: HostRuntime) {
+    let bad = |line| ReadRefused::BadSyntax { line };
+    for (text, want) in [
+        ("fluent p/0", bad(1)),
+        ("fluent p/0.\np.\nq(", bad(3)),
+        ("p :- q.", bad(1)),
+        ("p.\n(X) = 3.", bad(2)),
+        ("p if (X) = 3.", bad(1)),
+        ("p if f(a)\n< 3.", bad(2)),
+        ("fluent p/65.", bad(1)),
+        ("timeless p(*, *).", bad(1)),
+        ("p(9223372036854775808).", bad(1)),
+        ("if p at T then q at T,\nT =< T + 1000001.", bad(2)),
+        ("false a from T1 to T2,\nT1 < T2.", bad(2)),
     ] {
         assert_eq!(rt;
-            brought(rt.alloc(), &text, number, line.as_bytes())?,
-            want,
-            "{line}"
+            refusal_of(rt.alloc(), text),
+            Some(ReadError::Refused(want)),
+            "{text}"
         );
     }
-    Ok(())
 }
 
 #[test]
-fn many_events(rt: HostRuntime) -> Result<(), Fail> {
-    let text = small(rt.alloc())?;
-    let mut line = String::from_str(rt.alloc(), "7: e")?;
-    for _ in 1..1_000 {
-        line.push_str(", e")?;
+fn faults(rt: HostRuntime) {
+    for (text, want) in [
+        ("p.\np ! q.", LexRefused::BadByte { line: 2 }),
+        (
+            "initially p(9223372036854775809).",
+            LexRefused::NumberTooLarge { line: 1 },
+        ),
+        (
+            "p(.\n\na234567890123456789012345678901234567890123456789012345678901234X.",
+            LexRefused::NameTooLong { line: 3 },
+        ),
+    ] {
+        let want = ReadError::Refused(ReadRefused::Lex(want));
+        assert_eq!(rt; refusal_of(rt.alloc(), text), Some(want), "{text}");
     }
-    let mut longer = line.clone()?;
-    line.push_str(".")?;
-    longer.push_str(", e.")?;
-    assert_eq!(rt;
-        brought(rt.alloc(), &text, 7, line.as_bytes())?,
-        Some((1_000, b'e'))
-    );
-    assert_eq!(rt; brought(rt.alloc(), &text, 7, longer.as_bytes())?, None);
-    Ok(())
+}
+
+#[test]
+fn laws_hold() {
+    texts_are_unique();
 }

@@ -1,60 +1,47 @@
-ghost use Rattle.std.specs.Prelude.{◌≡◌, ◌≤◌, length, IfOk};
-ghost use Rattle.lps_model.specs.SmallText.{bodies, text_of};
-ghost use Rattle.lps_reader.specs.Reading.{HasRead};
-ghost use Rattle.lps_reader.specs.ReadText.{IsReadOf};
+ghost use Rattle.lps_refusal.specs.Texts.{IsNumberedText};
+ghost use Rattle.lps_reader.specs.Texts.{IsReadOf};
 
-use crate::ReadError;
-use crate::cut::cut;
-use crate::line::body_of;
-use crate::reading::Reading;
-use lps_terms::{ReadRefused, Text, TextRefused};
-use std::alloc::{AllocError, Global};
+use crate::read_error::ReadError;
+use crate::statements::{lines_of, statements};
+use lps_build::build_text;
+use lps_numbering::Numbered;
+use lps_refusal::{NumberedText, numbered_text};
+use lps_terms::Text;
+use std::alloc::Global;
 
-const MAX_TEXT: usize = 1_048_576;
-
-/// Reads each line once.
-fn read_lines(alloc: Global, bytes: &[u8]) -> Result<Reading, AllocError>
-    requires { length bytes.now ≤ 1048576 }
-    ensures { IfOk result (HasRead (bodies bytes.now)) }
-{
-    let mut reading = Reading::new(alloc);
-    let mut rest = bytes;
-    while let Some((line, after)) = cut(rest, b'\n') {
-        let body = body_of(alloc, line)?;
-        reading.take(alloc, body)?;
-        rest = after;
-    }
-    if rest.is_empty() {
-        return Ok(reading);
-    }
-    reading.take(alloc, None)?;
-    Ok(reading)
-}
-
-/// The text that the bytes spell, or why they are refused.
-#[tactic(auto, unfolding(lps_model::specs::SmallText::text_of))]
-fn text_of(alloc: Global, bytes: &[u8]) -> Result<Result<Text, TextRefused>, AllocError>
-    ensures { IfOk result (λ found. found ≡ text_of bytes.now) }
-{
-    if bytes.len() > MAX_TEXT {
-        return Ok(Err(TextRefused::Read(ReadRefused::TextTooLong)));
-    }
-    let reading = read_lines(alloc, bytes)?;
-    Ok(reading.judge())
-}
-
-/// Reads a text of the small form: each line is `fluent N/0.`, `event N/0.`, `initially N.`, `E initiates F.` or
-/// `E terminates F.` and ends with a line feed.
+/// Reads the bytes of a text: its statements in order, each with the line of its first token, counted from 1, and the written
+/// names of its variables and times by number.
 ///
-/// A text of more than 1,048,576 bytes is refused as too long. Else the first line is refused as not built that is no
-/// such statement, declares a name that a line before it declares, or has a name where its kind may not stand. The text
-/// is the same whatever the order of declarations and uses.
+/// `Refused` comes exactly where the bytes are no text within the limits, with the first refusal: more than 1,048,576 bytes; or
+/// else the first place at which no token begins or one is too large; or else the earliest token up to which no text begins,
+/// which is a 256th different variable or time of its statement, or a 1,025th symbol of an atom, a side or an expression.
 pub fn read_text(alloc: Global, bytes: &[u8]) -> Result<Text, ReadError>
     ensures { IsReadOf bytes.now result }
 {
-    match text_of(alloc, bytes) {
-        Ok(Ok(text)) => Ok(text),
-        Ok(Err(refused)) => Err(ReadError::Refused(refused)),
-        Err(_) => Err(ReadError::NoMemory),
+    match numbered_text(alloc, bytes)? {
+        Ok(text) => built(alloc, bytes, text),
+        Err(refused) => Err(ReadError::Refused(refused)),
     }
+}
+
+/// The text of tokens that are one.
+fn built(alloc: Global, bytes: &[u8], found: NumberedText) -> Result<Text, ReadError>
+    requires { IsNumberedText bytes.now found }
+    ensures { IsReadOf bytes.now result }
+{
+    // Tokens take much room, so each of the two lists goes as soon as it was used.
+    let NumberedText { tokens, numbered } = found;
+    let lines = lines_of(alloc, tokens.as_slice())?;
+    drop(tokens);
+    let Numbered {
+        toks,
+        statements: names,
+        crowded: _,
+    } = numbered;
+    let Some(bodies) = build_text(alloc, toks.as_slice())? else {
+        unreachable!()
+    };
+    drop(toks);
+    let statements = statements(alloc, lines.as_slice(), names, bodies)?;
+    Ok(Text { statements })
 }

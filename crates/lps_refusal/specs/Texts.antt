@@ -1,12 +1,13 @@
 -- Which bytes are a text within its limits, and how others are refused: for their number, then for their tokens, then for
 -- the first token that refuses.
-use Rattle.std.specs.Prelude.{ℕ, ◌≡◌, ◌<◌, ◌≤◌, List, length, Option, Some, None, Result, Ok, Err}
+use Rattle.std.specs.Prelude.{ℕ, ◌≡◌, ◌<◌, ◌≤◌, List, All, length, Option, Some, None, Result, Ok, Err}
 use Rattle.lps_terms.specs.declared.read_refused.ReadRefused.{ReadRefused}
 use Rattle.lps_terms.specs.declared.read_refused.ReadRefused.TheVariants as refused
 use Rattle.lps_lex.specs.declared.token.Token.{Token}
 use Rattle.lps_lex.specs.Lexing.{lexed}
-use Rattle.lps_numbering.specs.declared.numbered.Numbered.{Numbered}
+use Rattle.lps_lex.specs.Spans.{IsTokenOf}
 use Rattle.lps_numbering.specs.Numbers.{crowded_of, statements_of, toks_of}
+use Rattle.lps_refusal.specs.declared.text.NumberedText.{NumberedText}
 use Rattle.lps_refusal.specs.Refusing.{IsFirstRefusal}
 
 -- the tokens before the first fault
@@ -28,12 +29,14 @@ IsRefusal bytes (refused.Lex fault) = IsShort bytes × ((lexed bytes).fault ≡ 
 IsRefusal bytes other = IsRefusedAs bytes (Some other)
 
 -- the bytes are a text within its limits, and these are its tokens and the names of its statements
-pub record IsNumberedText (bytes : List ℕ) (numbered : Numbered) : Type 0 where
+pub record IsNumberedText (bytes : List ℕ) (found : NumberedText) : Type 0 where
   pub accepted : IsRefusedAs bytes None
-  pub toks : numbered.toks.items ≡ toks_of bytes (tokens_in bytes)
-  pub statements : numbered.statements.items ≡ statements_of bytes (tokens_in bytes)
+  pub tokens : found.tokens.items ≡ tokens_in bytes
+  pub spans : All (IsTokenOf bytes) found.tokens.items
+  pub toks : found.numbered.toks.items ≡ toks_of bytes (tokens_in bytes)
+  pub statements : found.numbered.statements.items ≡ statements_of bytes (tokens_in bytes)
 
 -- what is made of bytes: the tokens of a text, or the first refusal
-abbrev pub IsReading : List ℕ → Result Numbered ReadRefused → Type 0
-IsReading bytes (Ok numbered) = IsNumberedText bytes numbered
+abbrev pub IsReading : List ℕ → Result NumberedText ReadRefused → Type 0
+IsReading bytes (Ok found) = IsNumberedText bytes found
 IsReading bytes (Err refusal) = IsRefusal bytes refusal

@@ -12,5 +12,5 @@ mod tests;
 mod text;
 
 pub use judge::refusal_of;
-pub use refusal::first_refusal;
-pub use text::{LONGEST_TEXT, numbered_text};
+pub use refusal::{first_refusal, line_at};
+pub use text::{LONGEST_TEXT, NumberedText, numbered_text};

@@ -76,7 +76,7 @@ fn bytes_are_a_text_or_refused(rt: HostRuntime) -> Result<(), AllocError> {
         (b"p.\nq(", Err(ReadRefused::BadSyntax { line: 2 })),
     ] {
         let found = numbered_text(rt.alloc(), bytes)?;
-        assert!(rt; found.map(|numbered| numbered.toks.len()) == want);
+        assert!(rt; found.map(|text| text.numbered.toks.len()) == want);
     }
     Ok(())
 }

@@ -1,0 +1,9 @@
+//! What holds of the words that the contracts cite.
+ghost use Rattle.std.specs.Prelude.{◌≡◌, ℕ, List};
+ghost use Rattle.lps_terms.specs.declared.text.Text.{Text};
+ghost use Rattle.lps_reader.specs.Texts.{IsTextOf};
+
+/// Bytes are one text.
+pub fn texts_are_unique()
+    ensures { (bytes : List ℕ) (text other : Text) → IsTextOf bytes text → IsTextOf bytes other → text ≡ other }
+{}
