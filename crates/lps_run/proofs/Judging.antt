@@ -1,63 +1,81 @@
--- How a stream is judged byte by byte.
-use Rattle.std.proofs.Common.{◌≡◌, ℕ, suc, ◌<◌, Bool, true, false, cond, eqb, List, [], ◌∷◌, ◌++◌, length, Option, None, refl, sym, ap, ◌∙◌, arith, append_assoc, length-append}
-use Rattle.std.specs.Prelude.{◌&&◌, nat_le}
-use Rattle.std.proofs.lemmas.Bool.Decides.{nat_tests}
+-- How more lines are judged behind those that were taken.
+use Rattle.std.proofs.Common.{◌≡◌, ℕ, suc, ◌+◌, Bool, true, false, eqb, List, [], ◌∷◌, ◌++◌, length, Option, Some, None, refl, sym, subst, arith, append_assoc}
+use Rattle.std.specs.Prelude.{if◌then◌else◌}
+use Rattle.std.specs.List.{AllByRecursion}
+use Rattle.std.proofs.lemmas.Bool.{eqb-true}
 use Rattle.lps_terms.specs.declared.atom.Atom.{Atom}
+use Rattle.lps_terms.specs.declared.kind.Kind.{Kind}
+use Rattle.lps_terms.specs.declared.kind.Kind.TheVariants as k
+use Rattle.lps_terms.specs.declared.batch_kind.BatchKind.{BatchKind}
+use Rattle.lps_terms.specs.declared.batch_kind.BatchKind.TheVariants.{WrongArity}
 use Rattle.lps_terms.specs.declared.text.Text.{Text}
-use Rattle.lps_model.specs.SmallStream.{Judged, batch_of, faulty_at, put_batches, then_judged, judged_end, judged_from}
-use Rattle.lps_run.specs.Stopping.{line_feeds}
+use Rattle.lps_model.specs.declared.batch.Batch.{Batch}
+use Rattle.lps_model.specs.declared.signature.Signature.{Signature}
+use Rattle.lps_model.specs.Program.{signature_of}
+use Rattle.lps_model.specs.Run.{IsExternal}
+use Rattle.lps_batches.specs.Lines.{IsPassed}
+use Rattle.lps_batches.specs.Stream.{Skipped}
+use Rattle.lps_batches.specs.Stream as stream
+use Rattle.lps_run.specs.Judged.{ArePassed, AreWhole, IsBatchOf, batch_fault, event_fault, events_fault, fault_by, fault_of_kind, number_fault, or_else}
+use Rattle.lps_run.specs.Judged as judged
 
--- a byte inside a line
-pub judged_byte : (text : Text) (number byte : ℕ) (line more : List ℕ) → eqb byte 10 ≡ false → judged_from text number line (byte ∷ more) ≡ judged_from text number (line ++ byte ∷ []) more
-judged_byte text number byte line more e = rw e refl
+-- ---- lines
 
-either : {X : Type 0} (b : Bool) (x y z : X) → x ≡ z → y ≡ z → cond b x y ≡ z
-either true x y z p q = p
-either false x y z p q = q
+-- lines that are passed over
+skipped_lines : (text : Text) {front : List ℕ} {count : ℕ} (lines cycles : ℕ) → Skipped front count → ArePassed text lines cycles front [] (count + lines)
+skipped_lines text lines cycles stream.none = subst (ArePassed text lines cycles [] []) (let e : lines ≡ 0 + lines = omega arith in e) judged.none
+skipped_lines text lines cycles (stream.line {rest = rest} {count = count} line is more) =
+    judged.passed line is (subst (λ n. ArePassed text (suc lines) cycles rest [] n) (let e : count + suc lines ≡ suc count + lines = omega arith in e) (skipped_lines text (suc lines) cycles more))
 
-neither : (b : Bool) → (b && false) ≡ false
-neither true = refl
-neither false = refl
+-- more lines that are passed over
+pub skip_more : (text : Text) {lines cycles after count : ℕ} {bytes front : List ℕ} {batches : List (List Atom)} → ArePassed text lines cycles bytes batches after → Skipped front count →
+    ArePassed text lines cycles (bytes ++ front) batches (count + after)
+skip_more text {cycles = cycles} (judged.none {lines = lines}) skipped = skipped_lines text lines cycles skipped
+skip_more text {lines = lines} {cycles = cycles} {count = count} {front = front} (judged.passed {after = after} {rest = rest} {batches = batches} line is more) skipped =
+    subst (λ bytes. ArePassed text lines cycles bytes batches (count + after)) (sym (append_assoc line (10 ∷ rest) front)) (judged.passed line is (skip_more text more skipped))
+skip_more text {lines = lines} {cycles = cycles} {count = count} {front = front} (judged.batch {after = after} {rest = rest} {batches = batches} line batch is more) skipped =
+    subst (λ bytes. ArePassed text lines cycles bytes (batch.events ∷ batches) (count + after)) (sym (append_assoc line (10 ∷ rest) front)) (judged.batch line batch is (skip_more text more skipped))
 
-not_below : (n most : ℕ) → most < n → nat_le n most ≡ false
-not_below n most h = grind (arith, nat_tests)
+-- one more batch, where so many came before
+pub batch_more : (text : Text) {lines cycles after : ℕ} {bytes : List ℕ} {batches : List (List Atom)} (line : List ℕ) (batch : Batch) (count : ℕ) → ArePassed text lines cycles bytes batches after →
+    count ≡ cycles + length batches → IsBatchOf text (suc count) line batch → ArePassed text lines cycles (bytes ++ (line ++ 10 ∷ [])) (batches ++ batch.events ∷ []) (suc after)
+batch_more text {cycles = cycles} line batch count (judged.none {lines = lines}) e is =
+    judged.batch line batch (subst (λ n. IsBatchOf text (suc n) line batch) (let same : count ≡ cycles = omega (arith, e) in same) is) judged.none
+batch_more text {lines = lines} {cycles = cycles} line batch count (judged.passed {after = after} {rest = rest} {batches = batches} first passed more) e is =
+    subst (λ bytes. ArePassed text lines cycles bytes (batches ++ batch.events ∷ []) (suc after)) (sym (append_assoc first (10 ∷ rest) (line ++ 10 ∷ [])))
+    (judged.passed first passed (batch_more text line batch count more e is))
+batch_more text {lines = lines} {cycles = cycles} line batch count (judged.batch {after = after} {rest = rest} {batches = batches} first one fits more) e is =
+    subst (λ bytes. ArePassed text lines cycles bytes (one.events ∷ (batches ++ batch.events ∷ [])) (suc after)) (sym (append_assoc first (10 ∷ rest) (line ++ 10 ∷ [])))
+    (judged.batch first one fits (batch_more text line batch count more (let same : count ≡ suc cycles + length batches = omega (arith, e) in same) is))
 
-too_long : (text : Text) (number : ℕ) (line : List ℕ) → 65536 < length line → batch_of text number line ≡ None
-unfolding batch_of
-too_long text number line h = rw (not_below (length line) 65536 h, neither (nat_le number 1000000)) refl
+-- one more line that is passed over
+pub pass_more : (text : Text) {lines cycles after : ℕ} {bytes : List ℕ} {batches : List (List Atom)} (line : List ℕ) → ArePassed text lines cycles bytes batches after → IsPassed line →
+    ArePassed text lines cycles (bytes ++ (line ++ 10 ∷ [])) batches (suc after)
+pass_more text {lines = lines} {cycles = cycles} {after = after} {bytes = bytes} {batches = batches} line are is =
+    subst (ArePassed text lines cycles (bytes ++ (line ++ 10 ∷ [])) batches) (let e : 1 + after ≡ suc after = omega arith in e) (skip_more text are (stream.line line is stream.none))
 
--- a line that is too long is faulty, however it goes on
-pub long_line : (text : Text) (number : ℕ) (line more : List ℕ) → 65536 < length line → judged_from text number line more ≡ faulty_at number
-long_line text number [] [] h = absurd (omega arith)
-long_line text number (c ∷ cs) [] h = refl
-long_line text number line (byte ∷ more) h =
-    either (eqb byte 10) _ _ (faulty_at number)
-    (ap (λ (found : Option (List Atom)). then_judged number found (judged_from text (suc number) [] more)) (too_long text number line h))
-    (long_line text number (line ++ byte ∷ []) more (omega (arith, length-append line (byte ∷ []))))
+-- ---- the events of a batch without a fault
 
--- a rest without a line feed is faulty
-pub rest_faulty : (number : ℕ) (line : List ℕ) → 0 < length line → judged_end number line ≡ faulty_at number
-rest_faulty number [] h = absurd (omega arith)
-rest_faulty number (c ∷ cs) h = refl
+event_kind : (kind : Kind) → fault_of_kind kind ≡ None → kind ≡ k.Event
+event_kind k.Event e = refl
+event_kind other e = absurd cc
 
-pub end_batches : (number : ℕ) (line : List ℕ) → (judged_end number line).batches ≡ []
-end_batches number [] = refl
-end_batches number (c ∷ cs) = refl
+fitting : (signature : Option Signature) (count : ℕ) → fault_by signature count ≡ None → signature ≡ Some (record { kind = k.Event; arity = count })
+fitting None count e = absurd cc
+fitting (Some signature) count e = by_test (eqb signature.arity count) refl e where
+  by_test : (test : Bool) → eqb signature.arity count ≡ test → (if test then fault_of_kind signature.kind else Some WrongArity) ≡ None → Some signature ≡ Some (record { kind = k.Event; arity = count })
+  by_test true same e = λ i. Some (record { kind = event_kind signature.kind e i; arity = eqb-true signature.arity count same i })
+  by_test false other e = absurd cc
 
--- one batch more
-pub put_more : (batches : List (List Atom)) (batch : List Atom) (rest : Judged) → put_batches batches (put_batches (batch ∷ []) rest) ≡ put_batches (batches ++ batch ∷ []) rest
-put_more batches batch rest = λ i. record { batches = (sym (append_assoc batches (batch ∷ []) rest.batches)) i; faulty = rest.faulty }
+neither : (a b : Option BatchKind) → or_else a b ≡ None → (a ≡ None) × (b ≡ None)
+neither None b e = (refl, e)
+neither (Some fault) b e = absurd cc
 
--- ---- line feeds
+external : (text : Text) (events : List Atom) → events_fault text events ≡ None → AllByRecursion (IsExternal text) events
+external text [] e = tt
+external text (event ∷ events) e =
+    let both = neither (event_fault text event) (events_fault text events) e in
+    (fitting (signature_of text event.name) (length event.args) both.0, external text events both.1)
 
-count_more : (b : Bool) (n : ℕ) → cond b (suc (suc n)) (suc n) ≡ suc (cond b (suc n) n)
-count_more true n = refl
-count_more false n = refl
-
-pub feeds_more : (bytes : List ℕ) → line_feeds (bytes ++ 10 ∷ []) ≡ suc (line_feeds bytes)
-feeds_more [] = refl
-feeds_more (b ∷ bs) = ap (λ n. cond (eqb b 10) (suc n) n) (feeds_more bs) ∙ count_more (eqb b 10) (line_feeds bs)
-
-pub feeds_same : (bytes : List ℕ) (byte : ℕ) → eqb byte 10 ≡ false → line_feeds (bytes ++ byte ∷ []) ≡ line_feeds bytes
-feeds_same [] byte e = rw e refl
-feeds_same (b ∷ bs) byte e = ap (λ n. cond (eqb b 10) (suc n) n) (feeds_same bs byte e)
+pub batch_external : (text : Text) (expected : ℕ) (batch : Batch) → batch_fault text expected batch ≡ None → AllByRecursion (IsExternal text) batch.events
+batch_external text expected batch e = external text batch.events (neither (events_fault text batch.events) (number_fault expected batch.number) e).0

@@ -2,6 +2,7 @@ pub mod Among
 pub mod Tables
 pub mod Caused
 pub mod States
+pub mod Feeds
 pub mod Judging
 pub mod Reports
 pub mod Steps

@@ -1,18 +1,41 @@
 -- Reads of the stream.
-use Rattle.std.proofs.Common.{◌≡◌, ℕ, ◌+◌, ◌-◌, ◌<◌, ◌≤◌, ◌^◌, List, [], ◌++◌, length, take, Option, Some, Result, Ok, Err, refl, sym, ap, subst, ◌∙◌, arith, length-append, OnOk}
-use Rattle.std.proofs.lemmas.List.{length-take}
+use Rattle.std.proofs.Common.{◌≡◌, ℕ, ◌+◌, ◌-◌, ◌<◌, ◌≤◌, ◌^◌, List, [], ◌∷◌, ◌++◌, length, take, Option, Some, Result, Ok, Err, refl, sym, ap, subst, ◌∙◌, arith, append_assoc, length-append, OnOk}
+use Rattle.std.proofs.lemmas.List.{append_cancel_right, length-take}
 use Rattle.lps_outside.specs.Bytes.{Stream, Takes}
 use Rattle.lps_run.specs.declared.stream.Running.{Running}
 use Rattle.lps_run.specs.declared.stop.Stop.{Stop}
-use Rattle.lps_run.specs.declared.stop.Stop.TheVariants.{NoMemory, Refused, StreamLimit, EventFault, PrintFault}
-use Rattle.lps_run.specs.Stopping.{Stopped, StopsAtLine, LimitIs, TakesWithin, KeepsLimit}
+use Rattle.lps_run.specs.declared.stop.Stop.TheVariants.{NoMemory, Refused, CycleLimit, StreamLimit, EventFault, PrintFault}
+use Rattle.lps_run.specs.Judged.{ended}
+use Rattle.lps_run.specs.Stopping.{EndsAtRead, Stopped, StopsAtLine, LimitIs, TakesWithin, KeepsLimit}
 use Rattle.lps_run.specs.Running.{Standing, Reading}
-use Rattle.lps_run.proofs.Steps.{made_ends}
+use Rattle.lps_run.proofs.Steps.{made_prints}
+
+-- a read ended the run
+read_ends : (running : Running) (stream start last rest : List ℕ) (printed : Option (List ℕ)) (before after : Option Stream) (r : Reading running stream start printed before) → r.last.left ≡ last ++ rest →
+    after ≡ Some (record { left = rest; took = length last }) → EndsAtRead running.engine.laws stream start printed after last
+read_ends running stream start last rest printed before after r left known =
+    let made = r.standing.made in
+    let part = running.reader.left in
+    let split : stream ++ 10 ∷ [] ≡ ((made.taken ++ part) ++ (last ++ rest)) ++ 10 ∷ [] =
+    made.split ∙ ap (λ (bs : List ℕ). made.taken ++ (part ++ (bs ++ 10 ∷ []))) left
+    ∙ sym (append_assoc made.taken part ((last ++ rest) ++ 10 ∷ [])) ∙ sym (append_assoc (made.taken ++ part) (last ++ rest) (10 ∷ [])) in
+    record {
+      whole = made.taken;
+      part = part;
+      rest = rest;
+      split = append_cancel_right stream ((made.taken ++ part) ++ (last ++ rest)) (10 ∷ []) split;
+      known = known;
+      batches = made.batches;
+      lines = running.reader.lines;
+      are = made.are;
+      unended = r.part;
+      prints = made_prints made start printed r.standing.told;
+    }
 
 -- a read that failed ends the run
 pub read_failed : (running : Running) (stream start : List ℕ) (printed : Option (List ℕ)) (before after : Option Stream) → Reading running stream start printed before →
     ((last : Stream) → before ≡ Some last → after ≡ Some (record { left = last.left; took = 0 })) → Stopped running.engine.laws stream start printed after EventFault
-read_failed running stream start printed before after r none = made_ends r.standing.made start [] r.last.left printed after r.standing.told refl (none r.last r.known)
+read_failed running stream start printed before after r none = read_ends running stream start [] r.last.left printed before after r refl (none r.last r.known)
 
 -- a read that passed the limit
 pub limit_passed : (running : Running) (count room : ℕ) (stream start into : List ℕ) (printed : Option (List ℕ)) (before after : Option Stream) → Reading running stream start printed before →
@@ -20,20 +43,26 @@ pub limit_passed : (running : Running) (count room : ℕ) (stream start into : L
 limit_passed running count room stream start into printed before after r within takes =
     let t = takes r.last r.known in
     let size : count ≡ length (take count into) = omega (arith, length-take count into) in
-    (take count into, made_ends r.standing.made start (take count into) t.rest printed after r.standing.told t.whole (t.told ∙ ap (λ n. Some (record { left = t.rest; took = n })) size))
+    (take count into, read_ends running stream start (take count into) t.rest printed before after r t.whole (t.told ∙ ap (λ n. Some (record { left = t.rest; took = n })) size))
 
 -- the piece that was read stands before what is left
 pub piece_read : (running : Running) (count room : ℕ) (stream start into piece : List ℕ) (printed : Option (List ℕ)) (before after : Option Stream) → Reading running stream start printed before →
-    ((last : Stream) → before ≡ Some last → Takes last count room into after) → piece ≡ take count into → (rest : List ℕ) × (after ≡ Some (record { left = rest; took = count })) × Standing running stream (piece ++ rest) start printed
+    ((last : Stream) → before ≡ Some last → Takes last count room into after) → piece ≡ take count into →
+    (rest : List ℕ) × (after ≡ Some (record { left = rest; took = count })) × Standing running stream (piece ++ ended rest) start printed
 piece_read running count room stream start into piece printed before after r takes piece_is =
-    let t = takes r.last r.known in
-    (t.rest, t.told, subst (λ (bs : List ℕ). Standing running stream bs start printed) (t.whole ∙ ap (λ (bs : List ℕ). bs ++ t.rest) (sym piece_is)) r.standing)
+    let t = takes r.last r.known in (
+      t.rest,
+      t.told,
+      subst (λ (bs : List ℕ). Standing running stream bs start printed)
+          (ap ended (t.whole ∙ ap (λ (bs : List ℕ). bs ++ t.rest) (sym piece_is)) ∙ append_assoc piece t.rest (10 ∷ [])) r.standing,
+    )
 
 -- ---- the limit
 
 line_keeps : (taken before after : ℕ) (stop : Stop) → StopsAtLine stop → taken + before ≤ 2 ^ 36 + after → LimitIs {T = ℕ} taken before after (Err stop)
 line_keeps taken before after NoMemory kind h = h
 line_keeps taken before after (Refused line) kind h = h
+line_keeps taken before after CycleLimit kind h = h
 line_keeps taken before after PrintFault kind h = h
 line_keeps taken before after StreamLimit kind h = absurd kind
 line_keeps taken before after EventFault kind h = absurd kind
@@ -66,6 +95,7 @@ within_read taken count room before into source within t small few some =
 shifted : (taken before now after : ℕ) (stop : Stop) → before ≡ taken + now → LimitIs {T = ℕ} taken now after (Err stop) → LimitIs {T = Unit {0}} 0 before after (Err stop)
 shifted taken before now after NoMemory e h = omega arith
 shifted taken before now after (Refused line) e h = omega arith
+shifted taken before now after CycleLimit e h = omega arith
 shifted taken before now after PrintFault e h = omega arith
 shifted taken before now after StreamLimit e h = omega arith
 shifted taken before now after EventFault e h = omega arith
@@ -77,6 +107,7 @@ line_result : (before after : ℕ) (result : Result (Unit {0}) Stop) → ((stop 
 line_result before after (Ok x) kind h = omega arith
 line_result before after (Err NoMemory) kind h = omega arith
 line_result before after (Err (Refused line)) kind h = omega arith
+line_result before after (Err CycleLimit) kind h = omega arith
 line_result before after (Err PrintFault) kind h = omega arith
 line_result before after (Err StreamLimit) kind h = absurd (kind StreamLimit refl)
 line_result before after (Err EventFault) kind h = absurd (kind EventFault refl)

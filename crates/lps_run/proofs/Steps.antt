@@ -1,43 +1,53 @@
--- One byte, one line, and the end of a stream.
-use Rattle.std.proofs.Common.{◌≡◌, ℕ, suc, ◌+◌, ◌<◌, ◌≤◌, false, eqb, List, [], ◌∷◌, ◌++◌, length, Option, Some, None, Result, Ok, Err, refl, sym, ap, subst, ◌∙◌, inl, inr, arith, append_assoc, length-append, OnOk, OnErr, MatchResult}
-use Rattle.std.proofs.lemmas.List.{append-nil}
+-- From one line of a stream to the next, and to its end.
+use Rattle.std.proofs.Common.{◌≡◌, ℕ, suc, ◌+◌, ◌≤◌, List, [], ◌∷◌, ◌++◌, length, Option, Some, None, Result, Ok, Err, refl, sym, ap, subst, ◌∙◌, inl, inr, arith, append_assoc, append-nil, OnOk, OnErr, MatchResult}
+use Rattle.std.specs.Prelude.{◌⊎◌}
+use Rattle.std.specs.List.{AllByRecursion}
+use Rattle.std.proofs.lemmas.List.{length-map}
 use Rattle.lps_terms.specs.declared.atom.Atom.{Atom}
+use Rattle.lps_terms.specs.declared.batch_kind.BatchKind.{BatchKind}
+use Rattle.lps_terms.specs.declared.batch_kind.BatchKind.TheVariants.{LineTooLong}
 use Rattle.lps_terms.specs.declared.text.Text.{Text}
+use Rattle.lps_model.specs.declared.batch.Batch.{Batch}
 use Rattle.lps_model.specs.declared.cycle.Cycle.{Cycle}
 use Rattle.lps_model.specs.declared.trace.Trace.{Trace}
 use Rattle.lps_model.specs.Trace.{no_cycle, then_cycle}
 use Rattle.lps_model.specs.Report.{AreAllBlocks, block_text, last_line}
-use Rattle.lps_model.specs.Run.{IsRun, first_trace}
-use Rattle.lps_model.specs.SmallStream.{Judged, batch_of, faulty_at, judged, judged_end, judged_from, put_batches, then_judged}
+use Rattle.lps_model.specs.Run.{IsExternal, first_trace}
+use Rattle.lps_lines.specs.Stream.{IsLine}
+use Rattle.lps_batches.specs.declared.batch_bad.BatchBad.{BatchBad}
+use Rattle.lps_batches.specs.Lines.{IsBadLine}
+use Rattle.lps_batches.specs.Stream.{Ahead, BeginsBad, MeetsBad, MeetsBadLast, MetBefore, NothingLeft, NothingWhole, Reader, TakesBatch, TakesLast}
+use Rattle.lps_batches.specs.Stream as reads
+use Rattle.lps_batches.proofs.Few.{batch_few}
 use Rattle.lps_outside.specs.Bytes.{IsFront, Appends, AppendsFront, Stream}
 use Rattle.lps_run.specs.declared.engine.Engine.{Engine}
 use Rattle.lps_run.specs.declared.stream.Running.{Running}
 use Rattle.lps_run.specs.declared.stop.Stop.{Stop}
-use Rattle.lps_run.specs.declared.stop.Stop.TheVariants.{Refused, PrintFault}
+use Rattle.lps_run.specs.declared.stop.Stop.TheVariants.{PrintFault}
 use Rattle.lps_run.specs.Engine.{Stands}
-use Rattle.lps_run.specs.Stopping.{PrintsBlocks, PrintsRunFront, PrintsFront, Reported, EndsAtRead, Stopped, line_feeds}
-use Rattle.lps_run.specs.Running.{Made, Standing, Finished}
-use Rattle.lps_run.proofs.Judging.{judged_byte, long_line, rest_faulty, end_batches, put_more, feeds_more, feeds_same}
+use Rattle.lps_run.specs.Judged.{AreWhole, HasFirst, IsBatchOf, IsFaulty, IsSound, batch_fault, ended}
+use Rattle.lps_run.specs.Judged as judged
+use Rattle.lps_run.specs.Stopping.{PrintsBlocks, PrintsRunFront, PrintsFront, Reported, EndsAtLimit, EndsAtLine, Stopped}
+use Rattle.lps_run.specs.Running.{Due, Made, Standing, Finished}
+use Rattle.lps_run.proofs.Feeds.{long_ends, no_whole}
+use Rattle.lps_run.proofs.Judging.{batch_external, batch_more, pass_more, skip_more}
 use Rattle.lps_run.proofs.Reports.{block_more, block_first}
 
-module _ {engine : Engine} {line stream left blocks : List ℕ} (made : Made engine line stream left blocks) where
-  -- how the whole stream is judged
-  pub stream_judged : judged engine.laws stream ≡ put_batches made.batches (judged_from engine.laws (suc engine.cycles) line left)
-  stream_judged = ap (judged engine.laws) made.whole ∙ made.so_far left
+-- a run has a cycle for each batch
+batch_count : {text : Text} {facts : List Atom} {cycles : ℕ} {batches : List (List Atom)} {trace : Trace} → Stands text facts cycles batches trace → length batches ≡ cycles
+batch_count {trace = trace} stands = sym (ap length stands.run.events) ∙ length-map trace.cycles (λ (cycle : Cycle). cycle.events) ∙ stands.count
 
-  -- how the bytes that are taken are judged
-  taken_judged : judged engine.laws made.taken ≡ put_batches made.batches (judged_end (suc engine.cycles) line)
-  taken_judged = ap (judged engine.laws) (sym (append-nil made.taken)) ∙ made.so_far []
+-- ---- what is printed
 
-  taken_batches : (judged engine.laws made.taken).batches ≡ made.batches
-  taken_batches = ap (λ (j : Judged). j.batches) taken_judged ∙ ap (λ (bs : List (List Atom)). made.batches ++ bs) (end_batches (suc engine.cycles) line) ∙ append-nil made.batches
+module _ {running : Running} {stream rest blocks : List ℕ} (made : Made running stream rest blocks) where
+  made_first : HasFirst running.engine.laws stream made.batches
+  made_first = record { front = made.taken; rest = running.reader.left ++ rest; split = made.split; lines = running.reader.lines; are = made.are }
 
   -- a front of the blocks is a front of the report
-  pub made_front : (start front : List ℕ) (printed : Option (List ℕ)) → IsFront front blocks → printed ≡ Some (start ++ front) → PrintsRunFront engine.laws stream start printed
+  pub made_front : (start front : List ℕ) (printed : Option (List ℕ)) → IsFront front blocks → printed ≡ Some (start ++ front) → PrintsRunFront running.engine.laws stream start printed
   made_front start front printed is_front told = record {
     batches = made.batches;
-    others = (judged_from engine.laws (suc engine.cycles) line left).batches;
-    first = ap (λ (j : Judged). j.batches) stream_judged;
+    first = made_first;
     trace = made.trace;
     run = made.stands.run;
     blocks = blocks;
@@ -49,154 +59,279 @@ module _ {engine : Engine} {line stream left blocks : List ℕ} (made : Made eng
     told = told;
   }
 
-  -- what is printed are the blocks of the run over any batches that are those made
-  pub made_prints : (batches : List (List Atom)) (start : List ℕ) (printed : Option (List ℕ)) → batches ≡ made.batches → printed ≡ Some (start ++ blocks) → PrintsBlocks engine.laws batches start printed
-  made_prints batches start printed same told = record {
-    trace = made.trace;
-    run = subst (λ (bs : List (List Atom)). IsRun engine.laws bs made.trace) (sym same) made.stands.run;
-    blocks = blocks;
-    reported = made.reported;
-    told = told;
-  }
-
-  -- the line that is being taken is faulty
-  pub made_refused : (number : ℕ) (start : List ℕ) (printed : Option (List ℕ)) (source : Option Stream) → printed ≡ Some (start ++ blocks) → number ≡ engine.cycles + 1 →
-      judged_from engine.laws (suc engine.cycles) line left ≡ faulty_at (suc engine.cycles) → Stopped engine.laws stream start printed source (Refused number)
-  made_refused number start printed source told is faulty =
-      let whole : judged engine.laws stream ≡ put_batches made.batches (faulty_at (suc engine.cycles)) = stream_judged ∙ ap (put_batches made.batches) faulty in
-      let same : suc engine.cycles ≡ number = omega arith in (
-        ap (λ (j : Judged). j.faulty) whole ∙ ap Some same,
-        made_prints (judged engine.laws stream).batches start printed (ap (λ (j : Judged). j.batches) whole ∙ append-nil made.batches) told,
-      )
-
-  -- a read ends the run
-  pub made_ends : (start last rest : List ℕ) (printed : Option (List ℕ)) (source : Option Stream) → printed ≡ Some (start ++ blocks) → left ≡ last ++ rest →
-      source ≡ Some (record { left = rest; took = length last }) → EndsAtRead engine.laws stream start printed source last
-  made_ends start last rest printed source told parts known = record {
-    taken = made.taken;
-    rest = rest;
-    whole = made.whole ∙ ap (λ (bs : List ℕ). made.taken ++ bs) parts;
-    known = known;
-    lines = ap length taken_batches ∙ made.lines;
-    prints = made_prints (judged engine.laws made.taken).batches start printed taken_batches told;
-  }
+  -- what is printed are the blocks of the run over the batches
+  pub made_prints : (start : List ℕ) (printed : Option (List ℕ)) → printed ≡ Some (start ++ blocks) → PrintsBlocks running.engine.laws made.batches start printed
+  made_prints start printed told = record { trace = made.trace; run = made.stands.run; blocks = blocks; reported = made.reported; told = told }
 
 -- what was printed so far is a front of the report
-pub standing_front : {running : Running} {stream left start : List ℕ} {printed : Option (List ℕ)} → Standing running stream left start printed → PrintsFront running.engine.laws stream start printed
-standing_front {running} {stream} {left} {start} {printed} s = inr (made_front s.made start s.blocks printed ([], sym (append-nil s.blocks)) s.told)
+pub standing_front : {running : Running} {stream rest start : List ℕ} {printed : Option (List ℕ)} → Standing running stream rest start printed → PrintsFront running.engine.laws stream start printed
+standing_front {start = start} {printed = printed} s = inr (made_front s.made start s.blocks printed ([], sym (append-nil s.blocks)) s.told)
 
--- ---- a byte inside a line
+module _ {running : Running} {stream rest start : List ℕ} {printed : Option (List ℕ)} {batch : Batch} (due : Due running stream rest start printed batch) where
+  due_prints : PrintsBlocks running.engine.laws due.batches start printed
+  due_prints = record { trace = due.trace; run = due.stands.run; blocks = due.blocks; reported = due.reported; told = due.told }
 
-pub byte_made : (engine : Engine) (byte : ℕ) (line longer stream left blocks : List ℕ) → eqb byte 10 ≡ false → longer ≡ line ++ byte ∷ [] →
-    Made engine line stream (byte ∷ left) blocks → Made engine longer stream left blocks
-byte_made engine byte line longer stream left blocks other longer_is made = record {
-  taken = made.taken ++ byte ∷ [];
-  whole = made.whole ∙ sym (append_assoc made.taken (byte ∷ []) left);
-  batches = made.batches;
-  so_far = λ more. ap (judged engine.laws) (append_assoc made.taken (byte ∷ []) more) ∙ made.so_far (byte ∷ more)
-      ∙ ap (put_batches made.batches) (judged_byte engine.laws (suc engine.cycles) byte line more other ∙ ap (λ (bs : List ℕ). judged_from engine.laws (suc engine.cycles) bs more) (sym longer_is));
-  lines = made.lines ∙ sym (feeds_same made.taken byte other);
-  trace = made.trace;
-  stands = made.stands;
-  reported = made.reported;
-}
+  -- the same where the batch has no cycle yet
+  pub due_front : PrintsFront running.engine.laws stream start printed
+  due_front = inr (record {
+    batches = due.batches;
+    first = record { front = due.taken; rest = due.line ++ 10 ∷ (running.reader.left ++ rest); split = due.split; lines = due.lines; are = due.are };
+    trace = due.trace;
+    run = due.stands.run;
+    blocks = due.blocks;
+    reported = due.reported;
+    ending = [];
+    may_end = inl refl;
+    front = due.blocks;
+    is_front = ([], refl);
+    told = due.told;
+  })
 
--- the line gets too long
-pub too_long_refused : (engine : Engine) (byte number : ℕ) (line stream left blocks start : List ℕ) (printed : Option (List ℕ)) (source : Option Stream) → eqb byte 10 ≡ false → 65536 ≤ length line →
-    Made engine line stream (byte ∷ left) blocks → printed ≡ Some (start ++ blocks) → number ≡ engine.cycles + 1 → Stopped engine.laws stream start printed source (Refused number)
-too_long_refused engine byte number line stream left blocks start printed source other long made told is =
-    made_refused made number start printed source told is
-    (judged_byte engine.laws (suc engine.cycles) byte line left other ∙ long_line engine.laws (suc engine.cycles) (line ++ byte ∷ []) left (omega (arith, length-append line (byte ∷ []))))
+  next_line : judged.HasNext running.engine.laws stream due.batches due.lines due.line
+  next_line = record { front = due.taken; rest = running.reader.left ++ rest; split = due.split; are = due.are }
 
--- ---- a line that has ended
+  number_is : (number : ℕ) → number ≡ running.engine.cycles + 1 → number ≡ suc (length due.batches)
+  number_is number is = let count = batch_count due.stands in omega (arith, is, count)
 
-pub line_refused : (engine : Engine) (number : ℕ) (line stream left blocks start : List ℕ) (printed : Option (List ℕ)) (source : Option Stream) →
-    Made engine line stream (10 ∷ left) blocks → printed ≡ Some (start ++ blocks) → number ≡ engine.cycles + 1 → batch_of engine.laws number line ≡ None →
-    Stopped engine.laws stream start printed source (Refused number)
-line_refused engine number line stream left blocks start printed source made told is none =
-    let same : number ≡ suc engine.cycles = omega arith in
-    made_refused made number start printed source told is
-    (ap (λ (found : Option (List Atom)). then_judged (suc engine.cycles) found (judged_from engine.laws (suc (suc engine.cycles)) [] left)) (subst (λ k. batch_of engine.laws k line ≡ None) same none))
+  -- the batch is none of the next cycle
+  pub due_refused : (number place : ℕ) (kind : BatchKind) → number ≡ running.engine.cycles + 1 → place ≡ running.reader.lines → batch_fault running.engine.laws number batch ≡ Some kind →
+      EndsAtLine running.engine.laws stream start printed (record { line = place; kind = kind })
+  due_refused number place kind is at fault = record {
+    batches = due.batches;
+    is = record {
+      line = due.line;
+      lines = due.lines;
+      next = next_line;
+      place = at ∙ due.place;
+      is = inr (record { batch = batch; is = due.is; fault = subst (λ n. batch_fault running.engine.laws n batch ≡ Some kind) (number_is number is) fault });
+    };
+    prints = due_prints;
+  }
 
-pub line_made : (old new : Engine) (number : ℕ) (line stream left blocks block : List ℕ) (events : List Atom) (cycle : Cycle) → Made old line stream (10 ∷ left) blocks →
-    number ≡ old.cycles + 1 → batch_of old.laws number line ≡ Some events → new.laws ≡ old.laws → new.cycles ≡ old.cycles + 1 →
-    ((batches : List (List Atom)) (trace : Trace) → Stands old.laws old.facts.keys old.cycles batches trace → Stands old.laws new.facts.keys new.cycles (batches ++ events ∷ []) (then_cycle trace cycle)) →
-    block ≡ block_text number cycle new.facts.keys → Made new [] stream left (blocks ++ block)
-line_made old new number line stream left blocks block events cycle made number_is found laws_are count_is goes_on spelled =
-    let same : number ≡ suc old.cycles = omega arith in
-    let next : new.cycles ≡ suc old.cycles = omega arith in
-    let read : batch_of old.laws (suc old.cycles) line ≡ Some events = subst (λ k. batch_of old.laws k line ≡ Some events) same found in
-    let stands = goes_on made.batches made.trace made.stands in
-    let reported : AreAllBlocks old.laws (then_cycle made.trace cycle) (blocks ++ block) =
-    block_more old.laws old.facts.keys new.facts.keys old.cycles new.cycles made.batches (made.batches ++ events ∷ []) made.trace cycle blocks block made.stands stands count_is made.reported
-    (spelled ∙ (λ i. block_text ((same ∙ sym next) i) cycle new.facts.keys)) in
-    record {
-      taken = made.taken ++ 10 ∷ [];
-      whole = made.whole ∙ sym (append_assoc made.taken (10 ∷ []) left);
-      batches = made.batches ++ events ∷ [];
-      so_far = λ more.
-          let before : judged old.laws ((made.taken ++ 10 ∷ []) ++ more) ≡ put_batches (made.batches ++ events ∷ []) (judged_from old.laws (suc (suc old.cycles)) [] more) =
-          ap (judged old.laws) (append_assoc made.taken (10 ∷ []) more) ∙ made.so_far (10 ∷ more)
-          ∙ ap (λ (o : Option (List Atom)). put_batches made.batches (then_judged (suc old.cycles) o (judged_from old.laws (suc (suc old.cycles)) [] more))) read
-          ∙ put_more made.batches events (judged_from old.laws (suc (suc old.cycles)) [] more) in
-          rw (laws_are, next) before;
-      lines = length-append made.batches (events ∷ []) ∙ (let count : length made.batches + 1 ≡ suc (line_feeds made.taken) = omega (arith, made.lines) in count) ∙ sym (feeds_more made.taken);
-      trace = then_cycle made.trace cycle;
-      stands = subst (λ (text : Text). Stands text new.facts.keys new.cycles (made.batches ++ events ∷ []) (then_cycle made.trace cycle)) (sym laws_are) stands;
-      reported = subst (λ (text : Text). AreAllBlocks text (then_cycle made.trace cycle) (blocks ++ block)) (sym laws_are) reported;
-    }
+  fits : (number : ℕ) → number ≡ running.engine.cycles + 1 → batch_fault running.engine.laws number batch ≡ None → IsBatchOf running.engine.laws (suc (length due.batches)) due.line batch
+  fits number is fine = record { is = due.is; fits = subst (λ n. batch_fault running.engine.laws n batch ≡ None) (number_is number is) fine }
+
+  -- the run has as many cycles as a run may have
+  pub due_limit : (number : ℕ) → number ≡ running.engine.cycles + 1 → batch_fault running.engine.laws number batch ≡ None → running.engine.cycles ≡ 1000000 → EndsAtLimit running.engine.laws stream start printed
+  due_limit number is fine full = record {
+    batches = due.batches;
+    full = batch_count due.stands ∙ full;
+    goes_on = record { line = due.line; lines = due.lines; next = next_line; batch = batch; is = fits number is fine };
+    prints = due_prints;
+  }
+
+  -- the cycle of the batch is made
+  pub due_made : (new : Running) (number : ℕ) (cycle : Cycle) (block : List ℕ) → number ≡ running.engine.cycles + 1 → batch_fault running.engine.laws number batch ≡ None →
+      new.engine.laws ≡ running.engine.laws → new.reader ≡ running.reader → new.engine.cycles ≡ running.engine.cycles + 1 →
+      ((batches : List (List Atom)) (trace : Trace) → length batch.events ≤ 1000 → AllByRecursion (IsExternal running.engine.laws) batch.events → Stands running.engine.laws running.engine.facts.keys running.engine.cycles batches trace →
+      Stands running.engine.laws new.engine.facts.keys new.engine.cycles (batches ++ batch.events ∷ []) (then_cycle trace cycle)) →
+      block ≡ block_text number cycle new.engine.facts.keys → Made new stream rest (due.blocks ++ block)
+  due_made new number cycle block is fine laws_are reader_is count goes_on spelled =
+      let text = running.engine.laws in
+      let batches = due.batches ++ batch.events ∷ [] in
+      let trace = then_cycle due.trace cycle in
+      let stands = goes_on due.batches due.trace (batch_few due.line batch due.is.read) (batch_external text number batch fine) due.stands in
+      let same : number ≡ new.engine.cycles = is ∙ sym count in
+      let reported = block_more text running.engine.facts.keys new.engine.facts.keys running.engine.cycles new.engine.cycles due.batches batches due.trace cycle due.blocks block due.stands stands count due.reported
+      (spelled ∙ ap (λ n. block_text n cycle new.engine.facts.keys) same) in
+      let are : AreWhole text (due.taken ++ (due.line ++ 10 ∷ [])) batches (suc due.lines) = batch_more text due.line batch (length due.batches) due.are (let e : length due.batches ≡ 0 + length due.batches = omega arith in e) (fits number is fine) in
+      record {
+        fine = ap (λ (r : Reader). r.bad) reader_is ∙ due.fine;
+        taken = due.taken ++ (due.line ++ 10 ∷ []);
+        split =
+            due.split ∙ ap (λ (bs : List ℕ). due.taken ++ bs) (sym (append_assoc due.line (10 ∷ []) (running.reader.left ++ rest))) ∙ sym (append_assoc due.taken (due.line ++ 10 ∷ []) (running.reader.left ++ rest))
+            ∙ ap (λ (r : Reader). (due.taken ++ (due.line ++ 10 ∷ [])) ++ (r.left ++ rest)) (sym reader_is);
+        batches = batches;
+        are = subst (λ (t : Text). AreWhole t (due.taken ++ (due.line ++ 10 ∷ [])) batches new.reader.lines) (sym laws_are)
+            (subst (λ n. AreWhole text (due.taken ++ (due.line ++ 10 ∷ [])) batches n) (sym (ap (λ (r : Reader). r.lines) reader_is ∙ due.place)) are);
+        trace = trace;
+        stands = subst (λ (t : Text). Stands t new.engine.facts.keys new.engine.cycles batches trace) (sym laws_are) stands;
+        reported = subst (λ (t : Text). AreAllBlocks t trace (due.blocks ++ block)) (sym laws_are) reported;
+      }
 
 -- ---- a block is printed, or a front of it
 
 front_more : (blocks front block : List ℕ) → IsFront front block → IsFront (blocks ++ front) (blocks ++ block)
 front_more blocks front block f = (f.0, ap (λ (bs : List ℕ). blocks ++ bs) f.1 ∙ sym (append_assoc blocks front f.0))
 
-pub block_printed : (text : Text) (running : Running) (line stream left blocks block bytes start : List ℕ) (before after : Option (List ℕ)) (source : Option Stream) (X Y : Type 0) (result : Result (Unit {0}) Stop) →
-    Made running.engine line stream left (blocks ++ block) → running.engine.laws ≡ text → running.line.items ≡ line → bytes ≡ block → before ≡ Some (start ++ blocks) →
+pub block_printed : (text : Text) (running : Running) (stream rest blocks block bytes start : List ℕ) (before after : Option (List ℕ)) (source : Option Stream) (X Y : Type 0) (result : Result (Unit {0}) Stop) →
+    Made running stream rest (blocks ++ block) → running.engine.laws ≡ text → bytes ≡ block → before ≡ Some (start ++ blocks) →
     OnOk result (Appends before after bytes) → OnErr result (AppendsFront before after bytes) → MatchResult result (λ _. X) (λ stop. (stop ≡ PrintFault) × Y) →
-    MatchResult result (λ _. Standing running stream left start after) (λ stop. Stopped text stream start after source stop)
-block_printed text running line stream left blocks block bytes start before after source X Y (Ok x) made laws_are line_is bytes_are told all part cause = record {
+    MatchResult result (λ _. Standing running stream rest start after) (λ stop. Stopped text stream start after source stop)
+block_printed text running stream rest blocks block bytes start before after source X Y (Ok x) made laws_are bytes_are told all part cause = record {
   blocks = blocks ++ block;
-  made = subst (λ (bs : List ℕ). Made running.engine bs stream left (blocks ++ block)) (sym line_is) made;
+  made = made;
   told = all (start ++ blocks) told ∙ ap Some (append_assoc start blocks bytes ∙ ap (λ (bs : List ℕ). start ++ (blocks ++ bs)) bytes_are);
 }
-block_printed text running line stream left blocks block bytes start before after source X Y (Err stop) made laws_are line_is bytes_are told all part cause =
+block_printed text running stream rest blocks block bytes start before after source X Y (Err stop) made laws_are bytes_are told all part cause =
     let p = part (start ++ blocks) told in
     let front = front_more blocks p.0 block (subst (λ (bs : List ℕ). IsFront p.0 bs) bytes_are p.1) in
     let run : PrintsFront running.engine.laws stream start after = inr (made_front made start (blocks ++ p.0) after front (p.2 ∙ ap Some (append_assoc start blocks p.0))) in
     rw cause.0 (subst (λ (t : Text). PrintsFront t stream start after) laws_are run)
 
--- ---- the start and the end
+-- ---- the start
 
-pub begun : (engine : Engine) (text : Text) (stream block : List ℕ) (cycle : Cycle) → engine.laws ≡ text → Stands text engine.facts.keys engine.cycles [] (first_trace engine.facts.keys) →
-    cycle ≡ no_cycle → block ≡ block_text 0 cycle engine.facts.keys → Made engine [] stream stream block
-begun engine text stream block cycle laws_are before none spelled =
+pub begun : (running : Running) (text : Text) (stream block : List ℕ) (cycle : Cycle) → running.engine.laws ≡ text → running.reader ≡ record { left = []; lines = 0; bad = None } →
+    Stands text running.engine.facts.keys running.engine.cycles [] (first_trace running.engine.facts.keys) → cycle ≡ no_cycle → block ≡ block_text 0 cycle running.engine.facts.keys → Made running stream (ended stream) block
+begun running text stream block cycle laws_are reader_is before none spelled =
+    let engine = running.engine in
     let stands : Stands engine.laws engine.facts.keys engine.cycles [] (first_trace engine.facts.keys) = subst (λ (t : Text). Stands t engine.facts.keys engine.cycles [] (first_trace engine.facts.keys)) (sym laws_are) before in
     let zero_is : engine.cycles ≡ 0 = sym before.count in
     record {
+      fine = ap (λ (r : Reader). r.bad) reader_is;
       taken = [];
-      whole = refl;
+      split = ap (λ (r : Reader). r.left ++ ended stream) (sym reader_is);
       batches = [];
-      so_far = λ more. rw zero_is refl;
-      lines = refl;
+      are = subst (λ n. AreWhole engine.laws [] [] n) (sym (ap (λ (r : Reader). r.lines) reader_is)) judged.none;
       trace = first_trace engine.facts.keys;
       stands = stands;
       reported = block_first engine.laws engine.facts.keys block (subst (λ k. Stands engine.laws engine.facts.keys k [] (first_trace engine.facts.keys)) zero_is stands) (spelled ∙ ap (λ (c : Cycle). block_text 0 c engine.facts.keys) none);
     }
 
-pub finished : (running : Running) (stream start : List ℕ) (printed : Option (List ℕ)) → Standing running stream [] start printed → running.line.items ≡ [] → Finished running stream start printed
-finished running stream start printed s none =
-    let whole : judged running.engine.laws stream ≡ put_batches s.made.batches (record { batches = []; faulty = None }) =
-    stream_judged s.made ∙ ap (λ (bs : List ℕ). put_batches s.made.batches (judged_end (suc running.engine.cycles) bs)) none in
-    record {
-      sound = ap (λ (j : Judged). j.faulty) whole;
-      prints = made_prints s.made (judged running.engine.laws stream).batches start printed (ap (λ (j : Judged). j.batches) whole ∙ append-nil s.made.batches) s.told;
-    }
+-- ---- what the reader answers
 
-pub rest_refused : (running : Running) (number : ℕ) (stream start : List ℕ) (printed : Option (List ℕ)) (source : Option Stream) → Standing running stream [] start printed →
-    0 < length running.line.items → number ≡ running.engine.cycles + 1 → Stopped running.engine.laws stream start printed source (Refused number)
-rest_refused running number stream start printed source s some is =
-    made_refused s.made number start printed source s.told is (rest_faulty (suc running.engine.cycles) running.line.items some)
+-- behind the lines that are passed over
+passed_split : (taken front bytes left rest all : List ℕ) → all ≡ taken ++ (left ++ rest) → left ≡ front ++ bytes → all ≡ (taken ++ front) ++ (bytes ++ rest)
+passed_split taken front bytes left rest all split is =
+    split ∙ ap (λ (bs : List ℕ). taken ++ (bs ++ rest)) is ∙ ap (λ (bs : List ℕ). taken ++ bs) (append_assoc front bytes rest) ∙ sym (append_assoc taken front (bytes ++ rest))
+
+module _ (engine : Engine) (old new : Reader) {stream rest start : List ℕ} {printed : Option (List ℕ)} (s : Standing (record { engine = engine; reader = old }) stream rest start printed) where
+  -- what is known behind the lines that are passed over
+  past : {count : ℕ} {bytes : List ℕ} (ahead : Ahead old count bytes) → AreWhole engine.laws (s.made.taken ++ ahead.front) s.made.batches (count + old.lines)
+  past ahead = skip_more engine.laws s.made.are ahead.skipped
+
+  past_split : {count : ℕ} {bytes : List ℕ} (ahead : Ahead old count bytes) → ended stream ≡ (s.made.taken ++ ahead.front) ++ (bytes ++ rest)
+  past_split {bytes = bytes} ahead = passed_split s.made.taken ahead.front bytes old.left rest (ended stream) s.made.split ahead.split
+
+  pub nothing_more : NothingWhole old new → Standing (record { engine = engine; reader = new }) stream rest start printed
+  nothing_more n = record {
+    blocks = s.blocks;
+    made = record {
+      fine = n.fine;
+      taken = s.made.taken ++ n.ahead.front;
+      split = past_split n.ahead;
+      batches = s.made.batches;
+      are = subst (λ k. AreWhole engine.laws (s.made.taken ++ n.ahead.front) s.made.batches k) (let e : n.passed + old.lines ≡ new.lines = omega (arith, n.lines) in e) (past n.ahead);
+      trace = s.made.trace;
+      stands = s.made.stands;
+      reported = s.made.reported;
+    };
+    told = s.told;
+  }
+
+  pub batch_due : (batch : Batch) → TakesBatch old batch new → Due (record { engine = engine; reader = new }) stream rest start printed batch
+  batch_due batch t = record {
+    fine = t.fine;
+    taken = s.made.taken ++ t.ahead.front;
+    line = t.line;
+    split = past_split t.ahead ∙ ap (λ (bs : List ℕ). (s.made.taken ++ t.ahead.front) ++ bs) (append_assoc t.line (10 ∷ new.left) rest);
+    batches = s.made.batches;
+    lines = t.passed + old.lines;
+    are = past t.ahead;
+    place = omega (arith, t.lines);
+    is = t.is;
+    trace = s.made.trace;
+    stands = s.made.stands;
+    blocks = s.blocks;
+    reported = s.made.reported;
+    told = s.told;
+  }
+
+  -- a bad line behind the lines that are passed over
+  bad_line : (count : ℕ) (front line after : List ℕ) (kind : BatchKind) (bad : BatchBad) → AreWhole engine.laws (s.made.taken ++ front) s.made.batches (count + old.lines) → ended stream ≡ (s.made.taken ++ front) ++ (line ++ 10 ∷ after) →
+      bad.line ≡ old.lines + count + 1 → kind ≡ bad.kind → IsBadLine line kind → EndsAtLine engine.laws stream start printed bad
+  bad_line count front line after kind bad are split place kind_is is = record {
+    batches = s.made.batches;
+    is = record {
+      line = line;
+      lines = count + old.lines;
+      next = record { front = s.made.taken ++ front; rest = after; split = split; are = are };
+      place = omega (arith, place);
+      is = inl (subst (IsBadLine line) kind_is is);
+    };
+    prints = made_prints s.made start printed s.told;
+  }
+
+  begins_bad : (bad : BatchBad) (count : ℕ) (bytes : List ℕ) (kind : BatchKind) → Ahead old count bytes → BeginsBad bytes kind → bad.line ≡ old.lines + count + 1 → kind ≡ bad.kind → EndsAtLine engine.laws stream start printed bad
+  begins_bad bad count bytes kind ahead (reads.whole line after same is) place kind_is =
+      bad_line count ahead.front line (after ++ rest) same bad (past ahead) (past_split ahead ∙ ap (λ (bs : List ℕ). (s.made.taken ++ ahead.front) ++ bs) (append_assoc line (10 ∷ after) rest)) place kind_is is
+  begins_bad bad count bytes kind ahead (reads.long line after all long) place kind_is =
+      let e = long_ends stream (s.made.taken ++ ahead.front) line (after ++ rest) (past_split ahead ∙ ap (λ (bs : List ℕ). (s.made.taken ++ ahead.front) ++ bs) (append_assoc line after rest)) all long in
+      bad_line count ahead.front e.0 e.1 LineTooLong bad (past ahead) e.2 place kind_is e.3
+
+  -- the reader met a bad line
+  pub bad_met : (bad : BatchBad) → MetBefore old bad new ⊎ MeetsBad old bad new → EndsAtLine engine.laws stream start printed bad
+  bad_met bad (inl (before, same)) = let apart = sym s.made.fine ∙ before in absurd cc
+  bad_met bad (inr m) = begins_bad bad m.passed m.bytes bad.kind m.ahead m.begins m.place refl
+
+-- a piece of the stream is fed
+pub piece_fed : (running new : Running) (stream piece rest start : List ℕ) (printed : Option (List ℕ)) → Standing running stream (piece ++ rest) start printed → new.engine ≡ running.engine →
+    new.reader ≡ record { left = running.reader.left ++ piece; lines = running.reader.lines; bad = running.reader.bad } → Standing new stream rest start printed
+piece_fed running new stream piece rest start printed s engine_is reader_is =
+    subst (λ (r : Running). Standing r stream rest start printed) (λ i. record { engine = sym engine_is i; reader = sym reader_is i }) (record {
+      blocks = s.blocks;
+      made = record {
+        fine = s.made.fine;
+        taken = s.made.taken;
+        split = s.made.split ∙ ap (λ (bs : List ℕ). s.made.taken ++ bs) (sym (append_assoc running.reader.left piece rest));
+        batches = s.made.batches;
+        are = s.made.are;
+        trace = s.made.trace;
+        stands = s.made.stands;
+        reported = s.made.reported;
+      };
+      told = s.told;
+    })
+
+-- ---- the end
+
+-- the last line is thought to have a line feed
+last_split : (taken front line left all : List ℕ) → all ≡ taken ++ (left ++ 10 ∷ []) → left ≡ front ++ line → all ≡ (taken ++ front) ++ (line ++ 10 ∷ [])
+last_split taken front line left all split is = passed_split taken front line left (10 ∷ []) all split is
+
+module _ (engine : Engine) (old new : Reader) {stream start : List ℕ} {printed : Option (List ℕ)} (s : Standing (record { engine = engine; reader = old }) stream (10 ∷ []) start printed) where
+  pub none_left : NothingLeft old new → Finished (record { engine = engine; reader = new }) stream start printed
+  none_left n =
+      let are = pass_more engine.laws n.line (past engine old new s n.ahead) n.is in
+      let split = last_split s.made.taken n.ahead.front n.line old.left (ended stream) s.made.split n.ahead.split in
+      record {
+        batches = s.made.batches;
+        sound = (suc (n.passed + old.lines), subst (λ (bs : List ℕ). AreWhole engine.laws bs s.made.batches (suc (n.passed + old.lines))) (sym split) are);
+        prints = made_prints s.made start printed s.told;
+      }
+
+  pub last_due : (batch : Batch) → TakesLast old batch new → Due (record { engine = engine; reader = new }) stream [] start printed batch
+  last_due batch t = record {
+    fine = ap (λ (r : Reader). r.bad) t.same;
+    taken = s.made.taken ++ t.ahead.front;
+    line = t.line;
+    split = last_split s.made.taken t.ahead.front t.line old.left (ended stream) s.made.split t.ahead.split ∙ ap (λ (r : Reader). (s.made.taken ++ t.ahead.front) ++ (t.line ++ 10 ∷ (r.left ++ []))) (sym t.same);
+    batches = s.made.batches;
+    lines = t.passed + old.lines;
+    are = past engine old new s t.ahead;
+    place = ap (λ (r : Reader). r.lines) t.same ∙ (let e : old.lines + t.passed + 1 ≡ suc (t.passed + old.lines) = omega arith in e);
+    is = t.is;
+    trace = s.made.trace;
+    stands = s.made.stands;
+    blocks = s.blocks;
+    reported = s.made.reported;
+    told = s.told;
+  }
+
+  pub bad_last : (bad : BatchBad) → MeetsBadLast old bad new → EndsAtLine engine.laws stream start printed bad
+  bad_last bad m =
+      bad_line engine old new s m.passed m.ahead.front m.line [] bad.kind bad (past engine old new s m.ahead)
+      (last_split s.made.taken m.ahead.front m.line old.left (ended stream) s.made.split m.ahead.split) m.place refl m.is
+
+-- nothing is left
+pub all_taken : (running : Running) (stream start : List ℕ) (printed : Option (List ℕ)) → Standing running stream [] start printed → running.reader.left ≡ [] → Finished running stream start printed
+all_taken running stream start printed s none =
+    let split : s.made.taken ≡ ended stream = sym (s.made.split ∙ ap (λ (bs : List ℕ). s.made.taken ++ (bs ++ [])) none ∙ append-nil s.made.taken) in
+    record {
+      batches = s.made.batches;
+      sound = (running.reader.lines, subst (λ (bs : List ℕ). AreWhole running.engine.laws bs s.made.batches running.reader.lines) split s.made.are);
+      prints = made_prints s.made start printed s.told;
+    }
 
 -- the last line is printed, or a front of it
 pub last_printed : (running : Running) (text : Text) (stream start bytes : List ℕ) (before after : Option (List ℕ)) (source : Option Stream) (last : Stream) (X Y : Type 0) (result : Result (Unit {0}) Stop) →
@@ -209,6 +344,7 @@ last_printed running text stream start bytes before after source last X Y (Ok x)
       after = last;
       known = known;
       ended = ended;
+      batches = done.batches;
       sound = done.sound;
       trace = p.trace;
       run = p.run;
@@ -221,17 +357,37 @@ last_printed running text stream start bytes before after source last X Y (Err s
     let p = done.prints in
     let f = part (start ++ p.blocks) p.told in
     let run : PrintsRunFront running.engine.laws stream start after = record {
-      batches = (judged running.engine.laws stream).batches;
-      others = [];
-      first = sym (append-nil (judged running.engine.laws stream).batches);
+      batches = done.batches;
+      first = record { front = judged.ended stream; rest = []; split = sym (append-nil (judged.ended stream)); lines = done.sound.0; are = done.sound.1 };
       trace = p.trace;
       run = p.run;
       blocks = p.blocks;
       reported = p.reported;
       ending = last_line;
-      may_end = inr (refl, refl, done.sound);
+      may_end = inr (refl, done.sound);
       front = p.blocks ++ f.0;
       is_front = front_more p.blocks f.0 last_line (subst (λ (bs : List ℕ). IsFront f.0 bs) bytes_are f.1);
       told = f.2 ∙ ap Some (append_assoc start p.blocks f.0);
     } in
     rw cause.0 (subst (λ (t : Text). PrintsFront t stream start after) laws_are (inr run))
+
+module _ (engine : Engine) (old new : Reader) {stream start : List ℕ} {printed : Option (List ℕ)} (s : Standing (record { engine = engine; reader = old }) stream (10 ∷ []) start printed) (part : IsLine old.left) where
+  -- no whole line is left where the beginning of one is
+  no_batch : (batch : Batch) → TakesBatch old batch new → ⊥
+  no_batch batch t = no_whole t.ahead.front t.line new.left (subst IsLine t.ahead.split part)
+
+  -- the last line is a batch, whose cycle is made or not
+  pub finish_due : (batch : Batch) → TakesBatch old batch new ⊎ TakesLast old batch new → Due (record { engine = engine; reader = new }) stream [] start printed batch × (new.left ≡ [])
+  finish_due batch (inl t) = absurd (no_batch batch t)
+  finish_due batch (inr t) = (last_due engine old new s batch t, ap (λ (r : Reader). r.left) t.same)
+
+  pub finish_bad : (bad : BatchBad) → (MetBefore old bad new ⊎ MeetsBad old bad new) ⊎ MeetsBadLast old bad new → EndsAtLine engine.laws stream start printed bad
+  finish_bad bad (inl m) = bad_met engine old new s bad m
+  finish_bad bad (inr m) = bad_last engine old new s bad m
+
+-- the batch of the last line was taken
+pub finish_taken : (text : Text) (due new : Running) (stream start : List ℕ) (after : Option (List ℕ)) (source : Option Stream) (result : Result (Unit {0}) Stop) → due.reader.left ≡ [] → new.reader ≡ due.reader →
+    MatchResult result (λ _. Standing new stream [] start after) (λ stop. Stopped text stream start after source stop) →
+    MatchResult result (λ _. Finished new stream start after) (λ stop. Stopped text stream start after source stop)
+finish_taken text due new stream start after source (Ok x) none same h = all_taken new stream start after h (ap (λ (r : Reader). r.left) same ∙ none)
+finish_taken text due new stream start after source (Err stop) none same h = h

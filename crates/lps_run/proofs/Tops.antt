@@ -1,38 +1,32 @@
 -- The answers of the top call.
-use Rattle.std.proofs.Common.{◌≡◌, ℕ, ◌<◌, ◌+◌, ◌^◌, List, length, Option, Some, Result, Ok, Err, refl, subst, inl, arith, MatchResult}
+use Rattle.std.proofs.Common.{◌≡◌, ℕ, ◌<◌, ◌+◌, ◌^◌, List, length, Option, Some, Result, Ok, Err, refl, subst, inl, inr, arith, MatchResult}
 use Rattle.std.specs.Prelude.{◌↔◌}
-use Rattle.std.proofs.lemmas.Bool.{lt-ltb}
 use Rattle.lps_terms.specs.declared.text.Text.{Text}
-use Rattle.lps_terms.specs.declared.text_refused.TextRefused as refused
-use Rattle.lps_terms.specs.declared.text_refused.TextRefused.TheVariants.{Read}
-use Rattle.lps_terms.specs.declared.read_refused.ReadRefused.TheVariants.{TextTooLong}
-use Rattle.lps_model.specs.SmallText.{text_of}
+use Rattle.lps_terms.specs.declared.text_refused.TextRefused.TheVariants as reason
 use Rattle.lps_outside.specs.Bytes.{Stream}
 use Rattle.lps_run.specs.declared.stop.Stop.{Stop}
-use Rattle.lps_run.specs.declared.stop.Stop.TheVariants.{NoMemory, Refused, StreamLimit, EventFault, PrintFault}
+use Rattle.lps_run.specs.declared.stop.Stop.TheVariants.{NoMemory, Refused, CycleLimit, StreamLimit, EventFault, PrintFault}
 use Rattle.lps_run.specs.declared.answer.Answer.{Answer}
 use Rattle.lps_run.specs.declared.answer.Answer.TheVariants as answers
 use Rattle.lps_run.specs.Stopping.{Reported, Stopped, Counted, LimitIs, KeepsLimit}
-use Rattle.lps_run.specs.Answers.{Answered, Caused, EndsBeforeRun, IsNoUsage, IsSilent, PrintsFrontIf, RefusedAs, answer_to}
-
-pub long_text : (all : List ℕ) → 1048576 < length all → text_of all ≡ Err (Read TextTooLong)
-unfolding text_of
-long_text all long = rw (lt-ltb 1048576 (length all) long) refl
+use Rattle.lps_run.specs.Answers.{Answered, AnsweredCheck, Caused, EndsBeforeRun, IsNoUsage, IsRunText, IsSilent, RefusedAs, answer_to}
 
 -- what a run says, as the answer for it
-pub answered : (all : List ℕ) (text : Text) (stream start : List ℕ) (printed : Option (List ℕ)) (source : Option Stream) (result : Result (Unit {0}) Stop) → text_of all ≡ Ok text →
+pub answered : (all : List ℕ) (text : Text) (stream start : List ℕ) (printed : Option (List ℕ)) (source : Option Stream) (result : Result (Unit {0}) Stop) → IsRunText all text →
     MatchResult result (λ _. Reported text stream start printed source) (λ stop. Stopped text stream start printed source stop) → Answered all stream start printed source (answer_to result)
-answered all text stream start printed source (Ok x) e h = (text, e, h)
-answered all text stream start printed source (Err NoMemory) e h = rw e h
-answered all text stream start printed source (Err (Refused line)) e h = (text, e, refl, h.0, h.1)
-answered all text stream start printed source (Err StreamLimit) e h = (text, e, h.0, h.1)
-answered all text stream start printed source (Err EventFault) e h = (text, e, h)
-answered all text stream start printed source (Err PrintFault) e h = (text, e, h)
+answered all text stream start printed source (Ok x) is h = (text, is, h)
+answered all text stream start printed source (Err NoMemory) is h = inr (text, is, h)
+answered all text stream start printed source (Err (Refused faulty)) is h = (text, is, h)
+answered all text stream start printed source (Err CycleLimit) is h = (text, is, h)
+answered all text stream start printed source (Err StreamLimit) is h = (text, is, h.0, h.1)
+answered all text stream start printed source (Err EventFault) is h = (text, is, h)
+answered all text stream start printed source (Err PrintFault) is h = (text, is, h)
 
 pub run_caused : (faults reads reads' prints prints' : ℕ) (result : Result (Unit {0}) Stop) → Counted result reads reads' prints prints' → Caused (answer_to result) faults faults reads reads' prints prints'
 run_caused faults reads reads' prints prints' (Ok x) c = (refl, c.0, c.1)
 run_caused faults reads reads' prints prints' (Err NoMemory) c = (refl, c.0, c.1)
 run_caused faults reads reads' prints prints' (Err (Refused line)) c = (refl, c.0, c.1)
+run_caused faults reads reads' prints prints' (Err CycleLimit) c = (refl, c.0, c.1)
 run_caused faults reads reads' prints prints' (Err StreamLimit) c = (refl, c.0, c.1)
 run_caused faults reads reads' prints prints' (Err EventFault) c = (refl, c.0, c.1)
 run_caused faults reads reads' prints prints' (Err PrintFault) c = (refl, c.0, c.1)
@@ -41,6 +35,7 @@ pub run_no_usage : (result : Result (Unit {0}) Stop) → IsNoUsage (answer_to re
 run_no_usage (Ok x) = tt
 run_no_usage (Err NoMemory) = tt
 run_no_usage (Err (Refused line)) = tt
+run_no_usage (Err CycleLimit) = tt
 run_no_usage (Err StreamLimit) = tt
 run_no_usage (Err EventFault) = tt
 run_no_usage (Err PrintFault) = tt
@@ -49,6 +44,7 @@ pub run_speaks : (result : Result (Unit {0}) Stop) → IsSilent (answer_to resul
 run_speaks (Ok x) h = h
 run_speaks (Err NoMemory) h = h
 run_speaks (Err (Refused line)) h = h
+run_speaks (Err CycleLimit) h = h
 run_speaks (Err StreamLimit) h = h
 run_speaks (Err EventFault) h = h
 run_speaks (Err PrintFault) h = h
@@ -57,6 +53,7 @@ limit_of : (before after : ℕ) (result : Result (Unit {0}) Stop) → LimitIs 0 
 limit_of before after (Ok x) h = ((λ e. absurd cc), (λ over. absurd (omega arith)))
 limit_of before after (Err NoMemory) h = ((λ e. absurd cc), (λ over. absurd (omega arith)))
 limit_of before after (Err (Refused line)) h = ((λ e. absurd cc), (λ over. absurd (omega arith)))
+limit_of before after (Err CycleLimit) h = ((λ e. absurd cc), (λ over. absurd (omega arith)))
 limit_of before after (Err StreamLimit) h = ((λ e. omega arith), (λ over. refl))
 limit_of before after (Err EventFault) h = ((λ e. absurd cc), (λ over. absurd (omega arith)))
 limit_of before after (Err PrintFault) h = ((λ e. absurd cc), (λ over. absurd (omega arith)))
@@ -80,26 +77,45 @@ early_no_usage (answers.TextRefused reason) h = tt
 early_no_usage answers.TextFault h = tt
 early_no_usage answers.NoMemory h = tt
 early_no_usage answers.Done h = tt
+early_no_usage answers.Checked h = tt
+early_no_usage answers.CycleLimit h = tt
 early_no_usage (answers.Usage kind) h = h
 early_no_usage (answers.BatchRefused line kind) h = tt
 early_no_usage answers.StreamLimit h = tt
 early_no_usage answers.EventFault h = tt
 early_no_usage answers.PrintFault h = tt
 
-nothing_printed : (found : Result Text refused.TextRefused) (stream start : List ℕ) (printed : Option (List ℕ)) → printed ≡ Some start → PrintsFrontIf found stream start printed
-nothing_printed (Ok text) stream start printed e = inl e
-nothing_printed (Err reason) stream start printed e = e
+-- ---- a text that was not read
 
-pub early_answered : (all stream start : List ℕ) (printed : Option (List ℕ)) (source : Option Stream) (answer : Answer) → EndsBeforeRun answer → RefusedAs all answer → printed ≡ Some start → Answered all stream start printed source answer
-early_answered all stream start printed source (answers.TextRefused reason) kind h told = (h, told)
-early_answered all stream start printed source answers.TextFault kind h told = told
-early_answered all stream start printed source answers.NoMemory kind h told = nothing_printed (text_of all) stream start printed told
-early_answered all stream start printed source answers.Done kind h told = absurd kind
-early_answered all stream start printed source (answers.Usage u) kind h told = absurd kind
-early_answered all stream start printed source (answers.BatchRefused line k) kind h told = absurd kind
-early_answered all stream start printed source answers.StreamLimit kind h told = absurd kind
-early_answered all stream start printed source answers.EventFault kind h told = absurd kind
-early_answered all stream start printed source answers.PrintFault kind h told = absurd kind
+pub early_answered : (all stream start : List ℕ) (printed : Option (List ℕ)) (source : Option Stream) (answer : Answer) → RefusedAs all answer → printed ≡ Some start → Answered all stream start printed source answer
+early_answered all stream start printed source (answers.TextRefused (reason.Read refusal)) h told = (h, told)
+early_answered all stream start printed source (answers.TextRefused (reason.NotBuilt line)) h told = absurd h
+early_answered all stream start printed source (answers.TextRefused (reason.NotAccepted refused)) h told = absurd h
+early_answered all stream start printed source answers.TextFault h told = told
+early_answered all stream start printed source answers.NoMemory h told = inl told
+early_answered all stream start printed source answers.Done h told = absurd h
+early_answered all stream start printed source answers.Checked h told = absurd h
+early_answered all stream start printed source (answers.Usage u) h told = absurd h
+early_answered all stream start printed source (answers.BatchRefused line k) h told = absurd h
+early_answered all stream start printed source answers.CycleLimit h told = absurd h
+early_answered all stream start printed source answers.StreamLimit h told = absurd h
+early_answered all stream start printed source answers.EventFault h told = absurd h
+early_answered all stream start printed source answers.PrintFault h told = absurd h
+
+pub early_checked : (all start : List ℕ) (printed : Option (List ℕ)) (answer : Answer) → RefusedAs all answer → printed ≡ Some start → AnsweredCheck all start printed answer
+early_checked all start printed (answers.TextRefused (reason.Read refusal)) h told = (h, told)
+early_checked all start printed (answers.TextRefused (reason.NotBuilt line)) h told = absurd h
+early_checked all start printed (answers.TextRefused (reason.NotAccepted refused)) h told = absurd h
+early_checked all start printed answers.TextFault h told = told
+early_checked all start printed answers.NoMemory h told = told
+early_checked all start printed answers.Done h told = absurd h
+early_checked all start printed answers.Checked h told = absurd h
+early_checked all start printed (answers.Usage u) h told = absurd h
+early_checked all start printed (answers.BatchRefused line k) h told = absurd h
+early_checked all start printed answers.CycleLimit h told = absurd h
+early_checked all start printed answers.StreamLimit h told = absurd h
+early_checked all start printed answers.EventFault h told = absurd h
+early_checked all start printed answers.PrintFault h told = absurd h
 
 -- the counts of an answer before the run, with those of objects that were not called
 pub early_caused : (answer : Answer) (texts texts' reads prints : ℕ) → EndsBeforeRun answer → Caused answer texts texts' 0 0 0 0 → Caused answer texts texts' reads reads prints prints
@@ -107,6 +123,8 @@ early_caused (answers.TextRefused reason) texts texts' reads prints kind c = (c.
 early_caused answers.TextFault texts texts' reads prints kind c = (c.0, refl, refl)
 early_caused answers.NoMemory texts texts' reads prints kind c = (c.0, refl, refl)
 early_caused answers.Done texts texts' reads prints kind c = absurd kind
+early_caused answers.Checked texts texts' reads prints kind c = absurd kind
+early_caused answers.CycleLimit texts texts' reads prints kind c = absurd kind
 early_caused (answers.Usage u) texts texts' reads prints kind c = absurd kind
 early_caused (answers.BatchRefused line k) texts texts' reads prints kind c = absurd kind
 early_caused answers.StreamLimit texts texts' reads prints kind c = absurd kind

@@ -1,5 +1,7 @@
 pub mod Effects
 pub mod Engine
+pub mod Built
+pub mod Judged
 pub mod Stopping
 pub mod Running
 pub mod Loading

@@ -1,15 +1,17 @@
 -- How a run ends, and what is printed then.
-use Rattle.std.specs.Prelude.{◌≡◌, ◌⊎◌, ℕ, suc, ◌+◌, ◌^◌, ◌<◌, ◌≤◌, ◌==◌, List, [], ◌∷◌, ◌++◌, length, Option, Some, None, Result, Ok, Err, if◌then◌else◌}
+use Rattle.std.specs.Prelude.{◌≡◌, ◌⊎◌, ℕ, ◌+◌, ◌^◌, ◌<◌, ◌≤◌, List, [], ◌++◌, length, Option, Some, Result, Ok, Err}
 use Rattle.lps_terms.specs.declared.atom.Atom.{Atom}
 use Rattle.lps_terms.specs.declared.text.Text.{Text}
 use Rattle.lps_model.specs.declared.trace.Trace.{Trace}
 use Rattle.lps_model.specs.Report.{AreAllBlocks, IsReport, last_line}
 use Rattle.lps_model.specs.Run.{IsRun}
-use Rattle.lps_model.specs.SmallStream.{judged}
+use Rattle.lps_batches.specs.declared.batch_bad.BatchBad.{BatchBad}
+use Rattle.lps_lines.specs.Stream.{IsLine}
 use Rattle.lps_outside.specs.Bytes.{IsFront, Stream}
 use Rattle.lps_outside.specs.Causes.{Rose}
 use Rattle.lps_run.specs.declared.stop.Stop.{Stop}
-use Rattle.lps_run.specs.declared.stop.Stop.TheVariants.{NoMemory, Refused, StreamLimit, EventFault, PrintFault}
+use Rattle.lps_run.specs.declared.stop.Stop.TheVariants.{NoMemory, Refused, CycleLimit, StreamLimit, EventFault, PrintFault}
+use Rattle.lps_run.specs.Judged.{AreWhole, GoesOn, HasFirst, IsFirstFaulty, IsSound}
 
 -- what was printed since `start` are exactly the blocks of the run over these batches
 pub record PrintsBlocks (text : Text) (batches : List (List Atom)) (start : List ℕ) (printed : Option (List ℕ)) : Type 0 where
@@ -22,13 +24,12 @@ pub record PrintsBlocks (text : Text) (batches : List (List Atom)) (start : List
 -- what follows the blocks of the run over these batches: nothing, or the last line where the batches are all of the
 -- stream and no line of it is faulty
 abbrev pub MayEnd : Text → List ℕ → List (List Atom) → List ℕ → Type 0
-MayEnd text stream batches ending = (ending ≡ []) ⊎ ((ending ≡ last_line) × ((judged text stream).batches ≡ batches) × ((judged text stream).faulty ≡ None))
+MayEnd text stream batches ending = (ending ≡ []) ⊎ ((ending ≡ last_line) × IsSound text stream batches)
 
 -- what was printed since `start` is a front of the report of the run over the first batches of the stream
 pub record PrintsRunFront (text : Text) (stream start : List ℕ) (printed : Option (List ℕ)) : Type 0 where
   pub batches : List (List Atom)
-  pub others : List (List Atom)
-  pub first : (judged text stream).batches ≡ batches ++ others
+  pub first : HasFirst text stream batches
   pub trace : Trace
   pub run : IsRun text batches trace
   pub blocks : List ℕ
@@ -49,32 +50,46 @@ pub record Reported (text : Text) (stream start : List ℕ) (printed : Option (L
   pub after : Stream
   pub known : source ≡ Some after
   pub ended : after.left ≡ []
-  pub sound : (judged text stream).faulty ≡ None
+  pub batches : List (List Atom)
+  pub sound : IsSound text stream batches
   pub trace : Trace
-  pub run : IsRun text (judged text stream).batches trace
+  pub run : IsRun text batches trace
   pub report : List ℕ
   pub reported : IsReport text trace report
   pub told : printed ≡ Some (start ++ report)
 
--- how many line feeds there are
-abbrev pub line_feeds : List ℕ → ℕ
-line_feeds [] = 0
-line_feeds (byte ∷ bytes) = if byte == 10 then suc (line_feeds bytes) else line_feeds bytes
-
--- The run ended at a read that took the bytes `last`. What was printed since `start` are exactly the blocks of the run
--- over the batches of the bytes that were taken before, one for each line that ended in them.
+-- The run ended at a read that took the bytes `last`. The bytes taken before are whole lines and the beginning of one. What
+-- was printed since `start` are exactly the blocks of the run over the batches of these lines.
 pub record EndsAtRead (text : Text) (stream start : List ℕ) (printed : Option (List ℕ)) (source : Option Stream) (last : List ℕ) : Type 0 where
-  pub taken : List ℕ
+  pub whole : List ℕ
+  pub part : List ℕ
   pub rest : List ℕ
-  pub whole : stream ≡ taken ++ (last ++ rest)
+  pub split : stream ≡ (whole ++ part) ++ (last ++ rest)
   pub known : source ≡ Some (record { left = rest; took = length last })
-  pub lines : length (judged text taken).batches ≡ line_feeds taken
-  pub prints : PrintsBlocks text (judged text taken).batches start printed
+  pub batches : List (List Atom)
+  pub lines : ℕ
+  pub are : AreWhole text whole batches lines
+  pub unended : IsLine part
+  pub prints : PrintsBlocks text batches start printed
+
+-- the run ended at the first faulty line
+pub record EndsAtLine (text : Text) (stream start : List ℕ) (printed : Option (List ℕ)) (faulty : BatchBad) : Type 0 where
+  pub batches : List (List Atom)
+  pub is : IsFirstFaulty text stream batches faulty
+  pub prints : PrintsBlocks text batches start printed
+
+-- the run has as many cycles as a run may have, and the next line is one more batch
+pub record EndsAtLimit (text : Text) (stream start : List ℕ) (printed : Option (List ℕ)) : Type 0 where
+  pub batches : List (List Atom)
+  pub full : length batches ≡ 1000000
+  pub goes_on : GoesOn text stream batches
+  pub prints : PrintsBlocks text batches start printed
 
 -- how a run stands that ended early
 abbrev pub Stopped : Text → List ℕ → List ℕ → Option (List ℕ) → Option Stream → Stop → Type 0
 Stopped text stream start printed source NoMemory = PrintsFront text stream start printed
-Stopped text stream start printed source (Refused line) = ((judged text stream).faulty ≡ Some line) × PrintsBlocks text (judged text stream).batches start printed
+Stopped text stream start printed source (Refused faulty) = EndsAtLine text stream start printed faulty
+Stopped text stream start printed source CycleLimit = EndsAtLimit text stream start printed
 Stopped text stream start printed source StreamLimit = (last : List ℕ) × EndsAtRead text stream start printed source last
 Stopped text stream start printed source EventFault = EndsAtRead text stream start printed source []
 Stopped text stream start printed source PrintFault = PrintsFront text stream start printed
@@ -82,7 +97,8 @@ Stopped text stream start printed source PrintFault = PrintsFront text stream st
 -- the run was not stopped by a read
 abbrev pub StopsAtLine : Stop → Type 0
 StopsAtLine NoMemory = Unit {0}
-StopsAtLine (Refused line) = Unit {0}
+StopsAtLine (Refused faulty) = Unit {0}
+StopsAtLine CycleLimit = Unit {0}
 StopsAtLine PrintFault = Unit {0}
 StopsAtLine StreamLimit = ⊥
 StopsAtLine EventFault = ⊥
@@ -90,11 +106,12 @@ StopsAtLine EventFault = ⊥
 -- how the counts of faults stand: of the source, and of the desk
 abbrev pub Counted : {T : Type 0} → Result T Stop → ℕ → ℕ → ℕ → ℕ → Type 0
 Counted (Ok x) reads reads' prints prints' = (reads' ≡ reads) × (prints' ≡ prints)
-Counted (Err NoMemory) reads reads' prints prints' = (reads' ≡ reads) × (prints' ≡ prints)
-Counted (Err (Refused line)) reads reads' prints prints' = (reads' ≡ reads) × (prints' ≡ prints)
-Counted (Err StreamLimit) reads reads' prints prints' = (reads' ≡ reads) × (prints' ≡ prints)
 Counted (Err EventFault) reads reads' prints prints' = Rose reads reads' × (prints' ≡ prints)
 Counted (Err PrintFault) reads reads' prints prints' = (reads' ≡ reads) × Rose prints prints'
+Counted (Err NoMemory) reads reads' prints prints' = (reads' ≡ reads) × (prints' ≡ prints)
+Counted (Err (Refused faulty)) reads reads' prints prints' = (reads' ≡ reads) × (prints' ≡ prints)
+Counted (Err CycleLimit) reads reads' prints prints' = (reads' ≡ reads) × (prints' ≡ prints)
+Counted (Err StreamLimit) reads reads' prints prints' = (reads' ≡ reads) × (prints' ≡ prints)
 
 -- more bytes were taken than a stream may have exactly where this is the answer; `taken` were taken before
 abbrev pub LimitIs : {T : Type 0} → ℕ → ℕ → ℕ → Result T Stop → Type 0

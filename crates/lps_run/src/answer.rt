@@ -2,6 +2,7 @@ ghost use Rattle.std.specs.Prelude.{◌≡◌};
 ghost use Rattle.lps_run.specs.Answers.{answer_to, code_of};
 
 use crate::stop::Stop;
+use lps_reader::BatchBad;
 use lps_terms::{BatchKind, TextRefused};
 use std::fmt;
 
@@ -17,11 +18,15 @@ pub enum UsageKind {
 pub enum Answer {
     /// The stream was read to its end, and the whole report is printed.
     Done,
+    /// The canonical text of the text is printed.
+    Checked,
     Usage(UsageKind),
     /// The text is refused, and nothing is printed.
     TextRefused(TextRefused),
     /// The first faulty line of the stream; the blocks of the cycles before it are printed.
     BatchRefused { line: u64, kind: BatchKind },
+    /// The run has as many cycles as a run may have, and one more batch came.
+    CycleLimit,
     /// More bytes were taken than a stream may have.
     StreamLimit,
     TextFault,
@@ -37,9 +42,11 @@ impl Answer {
     {
         match self {
             Answer::Done => 0,
+            Answer::Checked => 0,
             Answer::Usage(_) => 2,
             Answer::TextRefused(_) => 3,
             Answer::BatchRefused { line: _, kind: _ } => 4,
+            Answer::CycleLimit => 6,
             Answer::StreamLimit => 6,
             Answer::TextFault => 7,
             Answer::EventFault => 7,
@@ -54,9 +61,11 @@ impl fmt::Display for Answer {
     fn fmt<W: fmt::Write>(&self, f: &mut fmt::Formatter<W>) -> fmt::Result {
         match self {
             Answer::Done => write!(f, "done"),
+            Answer::Checked => write!(f, "checked"),
             Answer::Usage(UsageKind::Words) => write!(f, "usage"),
             Answer::TextRefused(reason) => write!(f, "{reason}"),
             Answer::BatchRefused { line, kind } => write!(f, "batch line {line}: {kind}"),
+            Answer::CycleLimit => write!(f, "cycle limit"),
             Answer::StreamLimit => write!(f, "stream limit"),
             Answer::TextFault => write!(f, "text fault"),
             Answer::EventFault => write!(f, "event fault"),
@@ -73,10 +82,8 @@ pub fn answer_of(run: Result<(), Stop>) -> Answer
     match run {
         Ok(()) => Answer::Done,
         Err(Stop::NoMemory) => Answer::NoMemory,
-        Err(Stop::Refused { line }) => Answer::BatchRefused {
-            line,
-            kind: BatchKind::BadLine,
-        },
+        Err(Stop::Refused(BatchBad { line, kind })) => Answer::BatchRefused { line, kind },
+        Err(Stop::CycleLimit) => Answer::CycleLimit,
         Err(Stop::StreamLimit) => Answer::StreamLimit,
         Err(Stop::EventFault) => Answer::EventFault,
         Err(Stop::PrintFault) => Answer::PrintFault,

@@ -1,14 +1,17 @@
 ghost use Rattle.std.specs.Prelude.{◌≡◌};
 ghost use Rattle.lps_run.specs.declared.stop.Stop.TheVariants.{NoMemory};
 
+use lps_reader::BatchBad;
 use std::alloc::{AllocError, AllocFailed};
 
 /// Why a run ended before its report was whole.
 #[derive(Clone, Copy, Debug)]
 pub enum Stop {
     NoMemory,
-    /// This line of the stream, the first such, is no batch.
-    Refused { line: u64 },
+    /// The first line of the stream that is no batch of its cycle.
+    Refused(BatchBad),
+    /// The run has as many cycles as a run may have, and one more batch came.
+    CycleLimit,
     /// More bytes were taken than a stream may have.
     StreamLimit,
     EventFault,

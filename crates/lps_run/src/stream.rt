@@ -1,20 +1,18 @@
-ghost use Rattle.std.specs.Prelude.{◌≡◌, ◌≤◌, ◌+◌, ◌++◌, ◌∷◌, ◌^◌, [], List, ℕ, Option, Some, length, IfOk, IfErr, IfSome, OnOk, OnErr, MatchResult};
+ghost use Rattle.std.specs.Prelude.{◌≡◌, ◌≤◌, ◌<◌, ◌+◌, ◌++◌, ◌∷◌, ◌^◌, [], List, ℕ, Option, Some, None, true, false, length, IfOk, IfErr, OnOk, OnErr, MatchResult};
 ghost use Rattle.lps_terms.specs.declared.text.Text.{Text};
 ghost use Rattle.lps_model.specs.Report.{block_text};
-ghost use Rattle.lps_model.specs.SmallStream.{batch_of};
-ghost use Rattle.lps_reader.specs.Batch.{IsBatch};
 ghost use Rattle.lps_outside.specs.Bytes.{Stream, Appends, AppendsFront, Takes, TakesNothing};
 ghost use Rattle.lps_outside.specs.Causes.{Rose};
 ghost use Rattle.lps_run.specs.Stopping.{Counted, Reported, StopsAtLine, Stopped, TakesWithin, KeepsLimit};
 
+use crate::batch::batch_fault;
 use crate::engine::Engine;
 use crate::report::write_block;
 use crate::stop::Stop;
-use lps_model::{Accepted, Cycle};
+use lps_model::{Accepted, Batch, Cycle};
 use lps_outside::{Desk, Source};
-use lps_reader::read_batch;
+use lps_reader::{BatchBad, BatchReader};
 use lps_terms::Atom;
-use sqlite_items::Items;
 use std::alloc::{AllocError, Global};
 use std::collections::BTreeSet;
 
@@ -24,14 +22,14 @@ const MOST_BYTES: u64 = 68_719_476_736;
 /// How many reads reach the end of such a stream or pass its limit.
 const MOST_READS: u64 = 68_719_476_737;
 
-/// How many bytes a line may have without its line feed.
-const LONGEST_LINE: usize = 65_536;
+/// How many cycles a run may have.
+const MOST_CYCLES: u64 = 1_000_000;
 
-/// What is kept between two reads of the stream: the run so far, and the part of the next line that was read.
+/// What is kept between two reads of the stream: the run so far, and the reader of its lines.
 #[derive(Drop)]
 pub struct Running {
     pub engine: Engine,
-    pub line: Vec<u8>,
+    pub reader: BatchReader,
 }
 
 /// Prints bytes.
@@ -78,13 +76,16 @@ fn block_of(
 }
 
 impl Running {
-    ghost use Rattle.lps_run.specs.Running.{Standing, Reading, Finished};
+    ghost use Rattle.lps_lines.specs.Stream.{IsLine};
+    ghost use Rattle.lps_run.specs.Judged.{ended};
+    ghost use Rattle.lps_run.specs.Running.{Due, Standing, Reading, Finished};
 
     /// Prints the block of cycle 0.
     fn begin<D: Desk>(alloc: Global, text: Accepted, desk: &mut D) -> Result<Running, Stop>
         ensures text { IfOk result (λ running. running.engine.laws ≡ text) }
+        ensures empty { IfOk result (λ running. running.reader ≡ record { left = []; lines = 0; bad = None }) }
         ensures told { (stream start : List ℕ) (source : Option Stream) → D.printed desk.old ≡ Some start →
-            MatchResult result (λ running. Standing running stream stream start (D.printed desk.new))
+            MatchResult result (λ running. Standing running stream (ended stream) start (D.printed desk.new))
             (λ stop. Stopped text stream start (D.printed desk.new) source stop) }
         ensures kind { IfErr result StopsAtLine }
         ensures counted { Counted result 0 0 (D.print_faults desk.old) (D.print_faults desk.new) }
@@ -94,86 +95,85 @@ impl Running {
         print(desk, block.as_slice())?;
         Ok(Running {
             engine,
-            line: Vec::new(alloc),
+            reader: BatchReader::new(alloc),
         })
     }
 
-    /// The batch of the line that has ended, where it is that of this cycle.
-    fn batch(&self, alloc: Global, number: u64) -> Result<Option<Items<Atom>>, AllocError>
-        ensures found { IfOk result (λ found. found ≡ batch_of self.now.engine.laws number self.now.line.items) }
-        ensures external { IfOk result (λ found. IfSome found (λ events. IsBatch self.now.engine.laws number events)) }
-    {
-        read_batch(alloc, self.engine.laws.text(), number, self.line.as_slice())
-    }
-
-    /// Takes the line that has ended: one cycle more.
-    fn take_line<D: Desk>(&mut self, alloc: Global, desk: &mut D) -> Result<(), Stop>
+    /// Makes the cycle of a batch whose line was taken, if the batch is that of the next cycle.
+    fn take_batch<D: Desk>(&mut self, alloc: Global, batch: Batch, desk: &mut D) -> Result<(), Stop>
         ensures text { self.new.engine.laws ≡ self.old.engine.laws }
-        ensures told { (stream left start : List ℕ) (source : Option Stream) → Standing self.old stream (10 ∷ left) start (D.printed desk.old) →
-            MatchResult result (λ _. Standing self.new stream left start (D.printed desk.new))
+        ensures reader { self.new.reader ≡ self.old.reader }
+        ensures told { (stream rest start : List ℕ) (source : Option Stream) → Due self.old stream rest start (D.printed desk.old) batch →
+            MatchResult result (λ _. Standing self.new stream rest start (D.printed desk.new))
             (λ stop. Stopped self.old.engine.laws stream start (D.printed desk.new) source stop) }
         ensures kind { IfErr result StopsAtLine }
         ensures counted { Counted result 0 0 (D.print_faults desk.old) (D.print_faults desk.new) }
     {
         let number = self.engine.cycles + 1;
-        let Some(events) = self.batch(alloc, number)? else {
-            return Err(Stop::Refused { line: number });
-        };
-        self.line.clear();
-        let cycle = self.engine.cycle(alloc, events)?;
+        if let Some(kind) = batch_fault(self.engine.laws.text(), number, &batch) {
+            let line = self.reader.lines();
+            return Err(Stop::Refused(BatchBad { line, kind }));
+        }
+        if self.engine.cycles >= MOST_CYCLES {
+            return Err(Stop::CycleLimit);
+        }
+        let cycle = self.engine.cycle(alloc, batch.events)?;
         let block = block_of(alloc, number, &cycle, &self.engine.facts)?;
         print(desk, block.as_slice())
     }
 
-    /// Takes the next byte of the stream. A line is refused as soon as it is too long.
-    fn take_byte<D: Desk>(&mut self, alloc: Global, byte: u8, desk: &mut D) -> Result<(), Stop>
+    /// Takes the next whole line that holds a batch, and says whether there was one.
+    fn take_line<D: Desk>(&mut self, alloc: Global, desk: &mut D) -> Result<bool, Stop>
+        requires { self.old.reader.lines + length self.old.reader.left < 2 ^ 63 }
         ensures text { self.new.engine.laws ≡ self.old.engine.laws }
-        ensures told { (stream left start : List ℕ) (source : Option Stream) → Standing self.old stream (byte ∷ left) start (D.printed desk.old) →
-            MatchResult result (λ _. Standing self.new stream left start (D.printed desk.new))
+        ensures room { self.new.reader.lines + length self.new.reader.left ≤ self.old.reader.lines + length self.old.reader.left }
+        ensures shorter { IfOk result (λ found. found ≡ true → length self.new.reader.left < length self.old.reader.left) }
+        ensures told { (stream rest start : List ℕ) (source : Option Stream) → Standing self.old stream rest start (D.printed desk.old) →
+            MatchResult result (λ found. Standing self.new stream rest start (D.printed desk.new) × (found ≡ false → IsLine self.new.reader.left))
             (λ stop. Stopped self.old.engine.laws stream start (D.printed desk.new) source stop) }
         ensures kind { IfErr result StopsAtLine }
         ensures counted { Counted result 0 0 (D.print_faults desk.old) (D.print_faults desk.new) }
     {
-        if byte == b'\n' {
-            return self.take_line(alloc, desk);
+        match self.reader.next(alloc)? {
+            None => Ok(false),
+            Some(Err(bad)) => Err(Stop::Refused(bad)),
+            Some(Ok(batch)) => {
+                self.take_batch(alloc, batch, desk)?;
+                Ok(true)
+            }
         }
-        if self.line.len() >= LONGEST_LINE {
-            return Err(Stop::Refused {
-                line: self.engine.cycles + 1,
-            });
-        }
-        self.line.push(byte)?;
-        Ok(())
     }
 
-    /// Takes a piece of the stream.
+    /// Takes a piece of the stream: its whole lines, and the line that was begun before it.
     fn take_piece<D: Desk>(&mut self, alloc: Global, piece: &[u8], desk: &mut D) -> Result<(), Stop>
+        requires { self.old.reader.lines + length self.old.reader.left + length piece.now < 2 ^ 63 }
         ensures text { self.new.engine.laws ≡ self.old.engine.laws }
-        ensures told { (stream left start : List ℕ) (source : Option Stream) → Standing self.old stream (piece.now ++ left) start (D.printed desk.old) →
-            MatchResult result (λ _. Standing self.new stream left start (D.printed desk.new))
+        ensures room { OnOk result (self.new.reader.lines + length self.new.reader.left ≤ self.old.reader.lines + length self.old.reader.left + length piece.now) }
+        ensures told { (stream rest start : List ℕ) (source : Option Stream) → Standing self.old stream (piece.now ++ rest) start (D.printed desk.old) →
+            MatchResult result (λ _. Standing self.new stream rest start (D.printed desk.new) × IsLine self.new.reader.left)
             (λ stop. Stopped self.old.engine.laws stream start (D.printed desk.new) source stop) }
         ensures kind { IfErr result StopsAtLine }
         ensures counted { Counted result 0 0 (D.print_faults desk.old) (D.print_faults desk.new) }
     {
-        for byte in piece {
-            self.take_byte(alloc, *byte, desk)?;
-        }
+        self.reader.feed(piece)?;
+        while self.take_line(alloc, desk)? {}
         Ok(())
     }
 
-    /// How the run stands at the end of the stream: a rest without a line feed is no batch.
-    fn end(&self) -> Result<(), Stop>
-        ensures told { (stream start : List ℕ) (printed : Option (List ℕ)) (source : Option Stream) → Standing self.now stream [] start printed →
-            MatchResult result (λ _. Finished self.now stream start printed) (λ stop. Stopped self.now.engine.laws stream start printed source stop) }
+    /// Takes what is left at the end of the stream: a last line without a line feed.
+    fn finish<D: Desk>(&mut self, alloc: Global, desk: &mut D) -> Result<(), Stop>
+        requires { self.old.reader.lines + length self.old.reader.left < 2 ^ 63 }
+        ensures text { self.new.engine.laws ≡ self.old.engine.laws }
+        ensures told { (stream start : List ℕ) (source : Option Stream) → Standing self.old stream (10 ∷ []) start (D.printed desk.old) → IsLine self.old.reader.left →
+            MatchResult result (λ _. Finished self.new stream start (D.printed desk.new))
+            (λ stop. Stopped self.old.engine.laws stream start (D.printed desk.new) source stop) }
         ensures kind { IfErr result StopsAtLine }
-        ensures counted { Counted result 0 0 0 0 }
+        ensures counted { Counted result 0 0 (D.print_faults desk.old) (D.print_faults desk.new) }
     {
-        if self.line.is_empty() {
-            Ok(())
-        } else {
-            Err(Stop::Refused {
-                line: self.engine.cycles + 1,
-            })
+        match self.reader.finish(alloc)? {
+            None => Ok(()),
+            Some(Err(bad)) => Err(Stop::Refused(bad)),
+            Some(Ok(batch)) => self.take_batch(alloc, batch, desk),
         }
     }
 
@@ -185,9 +185,11 @@ impl Running {
         events: &mut E,
         desk: &mut D,
     ) -> Result<u64, Stop>
-        requires { taken ≤ 2 ^ 36 }
+        requires taken { taken ≤ 2 ^ 36 }
+        requires room { self.old.reader.lines + length self.old.reader.left ≤ taken }
         ensures text { self.new.engine.laws ≡ self.old.engine.laws }
         ensures within { IfOk result (λ count. taken + count ≤ 2 ^ 36) }
+        ensures room { IfOk result (λ count. self.new.reader.lines + length self.new.reader.left ≤ taken + count) }
         ensures bytes { (before : Stream) → E.stream events.old ≡ Some before → TakesWithin taken before result (E.stream events.new) }
         ensures told { (stream start : List ℕ) → Reading self.old stream start (D.printed desk.old) (E.stream events.old) →
             MatchResult result (λ _. Reading self.new stream start (D.printed desk.new) (E.stream events.new))
@@ -211,10 +213,11 @@ impl Running {
         events: &mut E,
         desk: &mut D,
     ) -> Result<(), Stop>
+        requires { self.old.reader ≡ record { left = []; lines = 0; bad = None } }
         ensures text { self.new.engine.laws ≡ self.old.engine.laws }
         ensures limit { (before : Stream) → E.stream events.old ≡ Some before → KeepsLimit before result (E.stream events.new) }
         ensures ended { OnOk result ((before : Stream) → E.stream events.old ≡ Some before → (after : Stream) × (E.stream events.new ≡ Some after) × (after.left ≡ [])) }
-        ensures told { (before : Stream) (start : List ℕ) → E.stream events.old ≡ Some before → Standing self.old before.left before.left start (D.printed desk.old) →
+        ensures told { (before : Stream) (start : List ℕ) → E.stream events.old ≡ Some before → Standing self.old before.left (ended before.left) start (D.printed desk.old) →
             MatchResult result (λ _. Finished self.new before.left start (D.printed desk.new))
             (λ stop. Stopped self.old.engine.laws before.left start (D.printed desk.new) (E.stream events.new) stop) }
         ensures counted { Counted result (E.faults events.old) (E.faults events.new) (D.print_faults desk.old) (D.print_faults desk.new) }
@@ -223,7 +226,7 @@ impl Running {
         for turn in 0..MOST_READS {
             let count = self.take_next(alloc, taken, events, desk)?;
             if count == 0 {
-                return self.end();
+                return self.finish(alloc, desk);
             }
             taken += count;
         }

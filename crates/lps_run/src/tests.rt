@@ -108,55 +108,114 @@ fn states(rt: HostRuntime) -> Result<(), Fail> {
     check_row(&rt, rt.alloc(), &row)
 }
 
+/// Streams whose first line is the batch of cycle 1, and what is said of the first faulty line.
 #[test]
-fn refusals(rt: HostRuntime) -> Result<(), Fail> {
+fn refused_lines(rt: HostRuntime) -> Result<(), Fail> {
+    for (stream, line) in [
+        ("1: .\n2: p.\n", "batch line 2: not external"),
+        ("1: .\n2: x.\n3: .\n", "batch line 2: undeclared"),
+        ("1: .\n2: e, e(a), x.", "batch line 2: wrong arity"),
+        ("1: .\n2: e", "batch line 2: bad line"),
+        ("1: .\n\n% two\n 3: e.", "batch line 4: expected 2, got 3"),
+        ("1: .\n2: e ! .\n", "batch line 2: bad line"),
+    ] {
+        let row = Row {
+            text: SWITCH,
+            stream,
+            code: 4,
+            line,
+            printed: "cycle 0\nstate\ncycle 1\nstate\n",
+            ..PLAIN
+        };
+        check_row(&rt, rt.alloc(), &row)?;
+    }
+    Ok(())
+}
+
+#[test]
+fn refused_texts(rt: HostRuntime) -> Result<(), Fail> {
+    for (text, line) in [
+        ("fluent q/0.\nderived q.\n", "text line 2: not built"),
+        ("fluent q/0.\nfluent q/0.\n", "text line 2: not built"),
+        ("event e/0.\n\ninitially e.\n", "text line 3: not built"),
+        ("fluent q/1.\n", "text line 1: not built"),
+        ("fluent p/0", "text line 1: bad syntax"),
+        ("initially q.\np ! q.\n", "text line 2: bad byte"),
+        (
+            "initially p(9223372036854775809).",
+            "text line 1: number too large",
+        ),
+    ] {
+        let row = Row {
+            text,
+            code: 3,
+            line,
+            printed: "",
+            ..PLAIN
+        };
+        check_row(&rt, rt.alloc(), &row)?;
+    }
+    Ok(())
+}
+
+#[test]
+fn streams(rt: HostRuntime) -> Result<(), Fail> {
     let row = Row {
-        text: SWITCH,
-        code: 4,
-        line: "batch line 2: bad line",
-        printed: "cycle 0\nstate\ncycle 1\nstate\n",
-        ..PLAIN
-    };
-    let refused = Row {
-        code: 3,
-        line: "text line 2: not built",
-        printed: "",
+        text: "fluent p/0. event e/0. e initiates p. e terminates p.",
+        stream: "% day one\n\n 1 : e .",
+        printed: "cycle 0\nstate\ncycle 1\nadmit e\nstate p\ndone\n",
         ..PLAIN
     };
     check_rows(
         &rt,
         rt.alloc(),
         &[
+            row,
+            Row { piece: 1, ..row },
             Row {
-                stream: "1: .\n2: p.\n",
+                stream: "1: e.\r\n \t\n",
                 ..row
-            },
-            Row {
-                stream: "1: .\n2: x.\n3: .\n",
-                ..row
-            },
-            Row {
-                stream: "1: .\n2: e.",
-                ..row
-            },
-            Row {
-                stream: "1: .\n3: .\n",
-                ..row
-            },
-            Row {
-                text: "fluent q/0.\nderived q.\n",
-                ..refused
-            },
-            Row {
-                text: "fluent q/0.\nfluent q/0.\n",
-                ..refused
-            },
-            Row {
-                text: "event e/0.\ninitially e.\n",
-                ..refused
             },
         ],
     )
+}
+
+/// Checks the answer to `check t`, which leaves the stream alone.
+fn check_check(rt: &impl Abort, alloc: Global, row: &Row) -> Result<(), Fail> {
+    let (answer, desk) = answer_to(alloc, &["check", "t"], row)?;
+    assert_eq!(rt; desk.printed(), row.printed.as_bytes());
+    assert_eq!(rt; answer.code(), row.code);
+    let line = answer.to_string(alloc)?;
+    assert_eq!(rt; line.as_str(), row.line);
+    Ok(())
+}
+
+#[test]
+fn checks(rt: HostRuntime) -> Result<(), Fail> {
+    let row = Row {
+        text: "fluent  p/0 ,q/1.initially q( -7 ),p.",
+        read_fails: &[1],
+        line: "checked",
+        printed: "fluent p/0, q/1.\ninitially q(-7), p.\n",
+        ..PLAIN
+    };
+    check_check(&rt, rt.alloc(), &row)?;
+    let faulty = Row {
+        print_fails: &[1],
+        code: 7,
+        line: "print fault",
+        printed: "fluent p/0, q/1.\ni",
+        ..row
+    };
+    check_check(&rt, rt.alloc(), &faulty)?;
+    let refused = Row {
+        text: "p.\nq(",
+        code: 3,
+        line: "text line 2: bad syntax",
+        printed: "",
+        ..row
+    };
+    check_check(&rt, rt.alloc(), &refused)
 }
 
 /// What is out after each print of the report of `SWITCH` over two batches.
@@ -227,13 +286,15 @@ fn failing_reads(rt: HostRuntime) -> Result<(), Fail> {
 /// The words decide before a text or a stream is read.
 #[test]
 fn words(rt: HostRuntime) -> Result<(), Fail> {
-    let no_command: [&[&str]; 6] = [
+    let no_command: [&[&str]; 8] = [
         &[],
         &["run"],
         &["help", "t"],
         &["run", ""],
         &["run", "-t"],
         &["run", "t", "u"],
+        &["check"],
+        &["check", "-t"],
     ];
     let row = Row {
         text_fails: &[1],

@@ -1,23 +1,25 @@
-ghost use Rattle.std.specs.Prelude.{◌≡◌, ◌↔◌, ◌<◌, ◌+◌, ◌^◌, ℕ, List, Some, None, Ok, length, MatchResult, IfErr};
-ghost use Rattle.lps_model.specs.SmallText.{text_of as text_found};
+ghost use Rattle.std.specs.Prelude.{◌≡◌, ◌↔◌, ◌<◌, ◌+◌, ◌^◌, ℕ, List, Some, None, length, MatchResult, IfErr};
 ghost use Rattle.lps_outside.specs.Bytes.{Stream};
-ghost use Rattle.lps_run.specs.Answers.{Answered, Caused, EndsBeforeRun, IsNoUsage, IsSilent, RefusedAs};
-ghost use Rattle.lps_run.specs.Words.{text_name, words_of};
+ghost use Rattle.lps_reader.specs.Texts.{IsTextOf};
+ghost use Rattle.lps_run.specs.declared.words.Command.TheVariants as asked;
+ghost use Rattle.lps_run.specs.Answers.{Answered, AnsweredCheck, Caused, EndsBeforeRun, IsNoUsage, IsSilent, RefusedAs};
+ghost use Rattle.lps_run.specs.Words.{command_of as command_of_words, words_of};
 
 use crate::answer::{Answer, UsageKind, answer_of};
+use crate::built::not_built;
 use crate::loading::{LoadError, load};
 use crate::stream::run;
-use crate::words::name_of_text;
+use crate::words::{Command, command_of};
 use lps_model::Accepted;
 use lps_outside::{Desk, Source, Texts};
-use lps_reader::{ReadError, read_text};
+use lps_reader::{ReadError, print_text, read_text};
 use lps_terms::{ReadRefused, Text, TextRefused};
 use std::alloc::Global;
 
 /// Reads the text of a name.
 fn text_of<T: Texts>(alloc: Global, texts: &mut T, name: &str) -> Result<Text, Answer>
     ensures told { (all : List ℕ) → T.text texts.old name.now ≡ Some all →
-        MatchResult result (λ text. text_found all ≡ Ok text) (λ answer. RefusedAs all answer) }
+        MatchResult result (λ text. IsTextOf all text) (λ answer. RefusedAs all answer) }
     ensures kind { IfErr result EndsBeforeRun }
     ensures counted { MatchResult result (λ _. T.faults texts.new ≡ T.faults texts.old)
         (λ answer. Caused answer (T.faults texts.old) (T.faults texts.new) 0 0 0 0) }
@@ -26,7 +28,9 @@ fn text_of<T: Texts>(alloc: Global, texts: &mut T, name: &str) -> Result<Text, A
         Ok(bytes) => match read_text(alloc, bytes.as_slice()) {
             Ok(text) => Ok(text),
             Err(ReadError::NoMemory) => Err(Answer::NoMemory),
-            Err(ReadError::Refused(reason)) => Err(Answer::TextRefused(reason)),
+            Err(ReadError::Refused(refusal)) => Err(Answer::TextRefused(TextRefused::Read(
+                refusal,
+            ))),
         },
         Err(LoadError::NoMemory) => Err(Answer::NoMemory),
         Err(LoadError::TooLong) => {
@@ -37,26 +41,48 @@ fn text_of<T: Texts>(alloc: Global, texts: &mut T, name: &str) -> Result<Text, A
     }
 }
 
-/// Runs a text that was read.
+/// Runs a text that was read, if it is one that is run.
 fn run_text<E: Source, D: Desk>(alloc: Global, text: Text, events: &mut E, desk: &mut D) -> Answer
     ensures kind { IsNoUsage result }
     ensures silent { IsSilent result → D.printed desk.new ≡ D.printed desk.old }
     ensures limit { (before after : Stream) → E.stream events.old ≡ Some before → E.stream events.new ≡ Some after →
         (result ≡ Answer.StreamLimit) ↔ (2 ^ 36 + length after.left < length before.left) }
-    ensures told { (all : List ℕ) (before : Stream) (start : List ℕ) → text_found all ≡ Ok text →
+    ensures told { (all : List ℕ) (before : Stream) (start : List ℕ) → IsTextOf all text →
         E.stream events.old ≡ Some before → D.printed desk.old ≡ Some start →
         Answered all before.left start (D.printed desk.new) (E.stream events.new) result }
     ensures caused { (faults : ℕ) → Caused result faults faults (E.faults events.old) (E.faults events.new) (D.print_faults desk.old) (D.print_faults desk.new) }
 {
-    match Accepted::new(alloc, text) {
-        Ok(text) => answer_of(run(alloc, text, events, desk)),
+    let Ok(text) = Accepted::new(alloc, text) else {
+        return Answer::NoMemory;
+    };
+    match not_built(alloc, &text) {
         Err(_) => Answer::NoMemory,
+        Ok(Some(line)) => Answer::TextRefused(TextRefused::NotBuilt { line }),
+        Ok(None) => answer_of(run(alloc, text, events, desk)),
     }
 }
 
-/// Runs the text of a name.
-fn run_name<T: Texts, E: Source, D: Desk>(
+/// Prints the canonical text of a text that was read.
+fn check_text<D: Desk>(alloc: Global, text: &Text, desk: &mut D) -> Answer
+    ensures kind { IsNoUsage result }
+    ensures silent { IsSilent result → D.printed desk.new ≡ D.printed desk.old }
+    ensures told { (all start : List ℕ) → IsTextOf all text.now → D.printed desk.old ≡ Some start → AnsweredCheck all start (D.printed desk.new) result }
+    ensures caused { (faults reads : ℕ) → Caused result faults faults reads reads (D.print_faults desk.old) (D.print_faults desk.new) }
+    ensures limit { result ≡ Answer.StreamLimit → ⊥ }
+{
+    let Ok(bytes) = print_text(alloc, text) else {
+        return Answer::NoMemory;
+    };
+    match desk.print(bytes.as_slice()) {
+        Ok(()) => Answer::Checked,
+        Err(_) => Answer::PrintFault,
+    }
+}
+
+/// Reads the text of a name, and runs or prints it.
+fn answer_command<T: Texts, E: Source, D: Desk>(
     alloc: Global,
+    command: Command,
     name: &str,
     texts: &mut T,
     events: &mut E,
@@ -66,25 +92,32 @@ fn run_name<T: Texts, E: Source, D: Desk>(
     ensures silent { IsSilent result → D.printed desk.new ≡ D.printed desk.old }
     ensures limit { (before after : Stream) → E.stream events.old ≡ Some before → E.stream events.new ≡ Some after →
         (result ≡ Answer.StreamLimit) ↔ (2 ^ 36 + length after.left < length before.left) }
-    ensures told { (all : List ℕ) (before : Stream) (start : List ℕ) → T.text texts.old name.now ≡ Some all →
+    ensures told { (all : List ℕ) (before : Stream) (start : List ℕ) → command ≡ asked.Run → T.text texts.old name.now ≡ Some all →
         E.stream events.old ≡ Some before → D.printed desk.old ≡ Some start →
         Answered all before.left start (D.printed desk.new) (E.stream events.new) result }
+    ensures checked { (all start : List ℕ) → command ≡ asked.Check → T.text texts.old name.now ≡ Some all → D.printed desk.old ≡ Some start →
+        AnsweredCheck all start (D.printed desk.new) result }
+    ensures unread { command ≡ asked.Check → E.stream events.new ≡ E.stream events.old }
     ensures caused { Caused result (T.faults texts.old) (T.faults texts.new) (E.faults events.old) (E.faults events.new) (D.print_faults desk.old) (D.print_faults desk.new) }
 {
     match text_of(alloc, texts, name) {
-        Ok(text) => run_text(alloc, text, events, desk),
         Err(answer) => answer,
+        Ok(text) => match command {
+            Command::Run => run_text(alloc, text, events, desk),
+            Command::Check => check_text(alloc, &text, desk),
+        },
     }
 }
 
-/// Runs `lps` on the words after the program's name. `run TEXT` reads the text of that name and a stream of
-/// numbered batches, and prints the report of the run: the block of cycle 0, a block for each line of the
-/// stream as soon as the line has ended, and the last line.
+/// Answers `lps` on the words after the program's name. `run TEXT` reads the text of that name and a stream of numbered batches,
+/// and prints the report of the run: the block of cycle 0, a block for each batch as soon as its line has ended, and the last
+/// line. `check TEXT` prints the canonical text of the text.
 ///
-/// `Usage` comes where the words are no command; `TextRefused` where the text is too long or a line of it does
-/// not fit; `BatchRefused` at the first line of the stream that is not the batch of its cycle; `StreamLimit`
-/// where more than 68,719,476,736 bytes were taken from the stream. A fault is that of the object which failed.
-/// What was printed before an answer stays; nothing is printed before the text is read.
+/// `Usage` comes where the words are no command; `TextRefused` where the text is too long, is no text, or, for `run`, has a
+/// statement that is not run yet; `BatchRefused` at the first line of the stream that is not the batch of its cycle;
+/// `CycleLimit` at a batch after 1,000,000 cycles; `StreamLimit` where more than 68,719,476,736 bytes were taken from the
+/// stream. A fault is that of the object which failed. What was printed before an answer stays; nothing is printed before the
+/// text is read.
 pub fn lps<T: Texts, E: Source, D: Desk>(
     alloc: Global,
     words: &[String],
@@ -93,12 +126,19 @@ pub fn lps<T: Texts, E: Source, D: Desk>(
     desk: &mut D,
 ) -> Answer
     // The words are refused exactly where they are no command.
-    ensures usage { (result ≡ Answer.Usage UsageKind.Words) ↔ (text_name (words_of words.now) ≡ None) }
+    ensures usage { (result ≡ Answer.Usage UsageKind.Words) ↔ (command_of_words (words_of words.now) ≡ None) }
 
-    // What each other answer says of the text, of the stream, and of what was printed.
-    ensures told { (name all : List ℕ) (before : Stream) (start : List ℕ) → text_name (words_of words.now) ≡ Some name →
+    // What each other answer of a run says of the text, of the stream, and of what was printed.
+    ensures told { (name all : List ℕ) (before : Stream) (start : List ℕ) → command_of_words (words_of words.now) ≡ Some (asked.Run, name) →
         T.text texts.old name ≡ Some all → E.stream events.old ≡ Some before → D.printed desk.old ≡ Some start →
         Answered all before.left start (D.printed desk.new) (E.stream events.new) result }
+
+    // What each other answer of a check says of the text and of what was printed.
+    ensures checked { (name all start : List ℕ) → command_of_words (words_of words.now) ≡ Some (asked.Check, name) →
+        T.text texts.old name ≡ Some all → D.printed desk.old ≡ Some start → AnsweredCheck all start (D.printed desk.new) result }
+
+    // A check leaves the stream as it is.
+    ensures unread { (name : List ℕ) → command_of_words (words_of words.now) ≡ Some (asked.Check, name) → E.stream events.new ≡ E.stream events.old }
 
     // The limit on the stream is reported exactly where it was passed.
     ensures limit { (before after : Stream) → E.stream events.old ≡ Some before → E.stream events.new ≡ Some after →
@@ -110,8 +150,8 @@ pub fn lps<T: Texts, E: Source, D: Desk>(
     // A fault is answered only where its count rose, and each other answer only where no count did.
     ensures caused { Caused result (T.faults texts.old) (T.faults texts.new) (E.faults events.old) (E.faults events.new) (D.print_faults desk.old) (D.print_faults desk.new) }
 {
-    match name_of_text(words) {
-        Some(name) => run_name(alloc, name, texts, events, desk),
+    match command_of(words) {
+        Some((command, name)) => answer_command(alloc, command, name, texts, events, desk),
         None => Answer::Usage(UsageKind::Words),
     }
 }

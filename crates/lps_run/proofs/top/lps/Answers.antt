@@ -1,11 +1,19 @@
-use Rattle.std.proofs.Common.{◌≡◌, ℕ, List, subst, Some}
-use Rattle.lps_run.specs.Answers.{IsNoUsage}
+use Rattle.std.proofs.Common.{◌≡◌, ◌∙◌, Option, Some, None, ℕ, List, [], ap, sym, subst}
+use Rattle.lps_run.specs.declared.words.Command.{Command}
+use Rattle.lps_run.specs.declared.words.Command.TheVariants as asked
 use Rattle.lps_run.proofs.top.lps.Goals as goal
 
-pub returns-in-Some-clause-usage : goal.returns-in-Some-clause-usage
-returns-in-Some-clause-usage g c = (λ e. absurd (subst IsNoUsage e c.run_name.ensures.kind), λ none. absurd (cc (c.in-Some.ensures, none)))
+abbrev command_in : Option (Command × List ℕ) → Command
+command_in None = asked.Run
+command_in (Some p) = p.0
+
+abbrev name_in : Option (Command × List ℕ) → List ℕ
+name_in None = []
+name_in (Some p) = p.1
 
 pub returns-in-Some-clause-told : goal.returns-in-Some-clause-told
 returns-in-Some-clause-told g c = λ name all before start is told known printed.
-    let same : name ≡ c.in-Some.name.now = cc (c.in-Some.ensures, is) in
-    c.run_name.ensures.told all before start (subst (λ (n : List ℕ). g.T.Texts.text c.args.texts.now n ≡ Some all) same told) known printed
+    let both = sym c.in-Some.ensures ∙ is in
+    let run : c.in-Some.command ≡ asked.Run = ap command_in both in
+    let same : name ≡ c.in-Some.name.now = ap name_in (sym both) in
+    c.answer_command.ensures.told all before start run (subst (λ (n : List ℕ). g.T.Texts.text c.args.texts.now n ≡ Some all) same told) known printed

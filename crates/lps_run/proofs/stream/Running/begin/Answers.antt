@@ -1,8 +1,10 @@
-use Rattle.std.proofs.Common.{◌∙◌, ℕ, List, [], Some, Ok, ap, sym, subst, inr}
+use Rattle.std.proofs.Common.{◌∙◌, ℕ, List, [], Some, None, Ok, ap, sym, subst, inr, refl}
 use Rattle.std.proofs.lemmas.List.{append-nil}
 use Rattle.std.proofs.lemmas.Result.{err_from_is_err_and}
 use Rattle.lps_terms.specs.declared.text.Text.{Text}
 use Rattle.lps_outside.specs.Bytes.{IsFront}
+use Rattle.lps_run.specs.declared.stream.Running.{Running}
+use Rattle.lps_run.specs.Judged.{ended}
 use Rattle.lps_run.specs.Stopping.{PrintsFront}
 use Rattle.lps_run.proofs.Steps.{begun, made_front, block_printed}
 use Rattle.lps_run.proofs.stream.Running.begin.Goals as goal
@@ -11,7 +13,7 @@ pub returns-in_err-print-clause-told : goal.returns-in_err-print-clause-told
 returns-in_err-print-clause-told g c = λ stream start source told.
     let p = err_from_is_err_and c.from_residual-in_err-print.result c.from_residual-in_err-print.ensures.1 in
     let engine = c.in_ok-engine.engine in
-    let made = begun engine c.args.text stream c.in_ok-block.block.items c.none.result c.in_ok-engine.ensures.text c.in_ok-engine.ensures.stands c.none.ensures c.in_ok-block.ensures in
+    let made = begun (record { engine = engine; reader = record { left = []; lines = 0; bad = None } }) c.args.text stream c.in_ok-block.block.items c.none.result c.in_ok-engine.ensures.text refl c.in_ok-engine.ensures.stands c.none.ensures c.in_ok-block.ensures in
     let f = c.in_err-print.ensures.front start told in
     let front = subst (λ (bs : List ℕ). IsFront f.0 bs) c.as_slice.ensures.value f.1 in
     let run : PrintsFront engine.laws stream start (g.D.Desk.printed c.print.new.desk) = inr (made_front made start f.0 (g.D.Desk.printed c.print.new.desk) front f.2) in
@@ -19,7 +21,7 @@ returns-in_err-print-clause-told g c = λ stream start source told.
 
 pub returns-clause-told : goal.returns-clause-told
 returns-clause-told g c = λ stream start source told.
-    let engine = c.in_ok-engine.engine in
-    let made = begun engine c.args.text stream c.in_ok-block.block.items c.none.result c.in_ok-engine.ensures.text c.in_ok-engine.ensures.stands c.none.ensures c.in_ok-block.ensures in
-    block_printed c.args.text (record { engine = engine; line = c.new.result }) [] stream stream [] c.in_ok-block.block.items c.as_slice.result.now start (g.D.Desk.printed c.args.desk.now) (g.D.Desk.printed c.print.new.desk) source
-    (Unit {0}) (Unit {0}) (Ok tt) made c.in_ok-engine.ensures.text c.new.ensures.items c.as_slice.ensures.value (told ∙ ap Some (sym (append-nil start))) c.in_ok-print.ensures.all tt tt
+    let running : Running = record { engine = c.in_ok-engine.engine; reader = c.new.result } in
+    let made = begun running c.args.text stream c.in_ok-block.block.items c.none.result c.in_ok-engine.ensures.text c.new.ensures c.in_ok-engine.ensures.stands c.none.ensures c.in_ok-block.ensures in
+    block_printed c.args.text running stream (ended stream) [] c.in_ok-block.block.items c.as_slice.result.now start (g.D.Desk.printed c.args.desk.now) (g.D.Desk.printed c.print.new.desk) source
+    (Unit {0}) (Unit {0}) (Ok tt) made c.in_ok-engine.ensures.text c.as_slice.ensures.value (told ∙ ap Some (sym (append-nil start))) c.in_ok-print.ensures.all tt tt
