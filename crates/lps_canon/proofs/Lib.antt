@@ -1,0 +1,5 @@
+pub mod Meanings
+pub mod Thins
+pub mod Growth
+pub mod Small
+pub mod Shortest
