@@ -10,13 +10,10 @@ counts. This is no test: nothing is compared with a bar.
 
 import os
 import random
-import subprocess
-import sys
 import tempfile
 from pathlib import Path
 
-TOP = Path(__file__).resolve().parent.parent
-RUNS = 3
+from measure import best
 
 
 def text_of(names):
@@ -42,31 +39,17 @@ def write_stream(path, cycles, names):
             out.write(f"{cycle}: {events}.\n")
 
 
-def best(program, text, stream):
-    """The least processor seconds and the greatest peak memory, in MiB, of a few runs."""
-    runs = []
-    for _ in range(RUNS):
-        with open(stream) as source, open(os.devnull, "w") as sink:
-            process = subprocess.Popen([program, "run", text], stdin=source, stdout=sink)
-            _, status, used = os.wait4(process.pid, 0)
-        if os.waitstatus_to_exitcode(status) != 0:
-            sys.exit(f"the program ended with status {os.waitstatus_to_exitcode(status)}")
-        runs.append((used.ru_utime + used.ru_stime, used.ru_maxrss / 1024))
-    return min(seconds for seconds, _ in runs), max(memory for _, memory in runs)
-
-
 def main():
-    program = sys.argv[1] if len(sys.argv) > 1 else str(TOP / "crates/lps_prog/out/lps_prog")
     with tempfile.TemporaryDirectory() as folder:
         text, stream = os.path.join(folder, "text"), os.path.join(folder, "stream")
         print("names    cycles     seconds  cycles/s  us/cycle  peak MiB")
         for names in (10, 10_000):
             Path(text).write_text(text_of(names))
             write_stream(stream, 0, names)
-            start, _ = best(program, text, stream)
+            start, _ = best(["run", text], stream)
             for cycles in (1_000, 10_000, 100_000, 1_000_000):
                 write_stream(stream, cycles, names)
-                seconds, memory = best(program, text, stream)
+                seconds, memory = best(["run", text], stream)
                 per_cycle = max(seconds - start, 1e-6) / cycles
                 print(f"{names:<8} {cycles:<10} {seconds:<8.3f} {1 / per_cycle:<9.0f} {per_cycle * 1e6:<9.2f} {memory:.1f}")
         print()
@@ -74,7 +57,7 @@ def main():
         write_stream(stream, 0, 2)
         for names in (1_000, 4_000, 10_000, 14_000):
             Path(text).write_text(text_of(names))
-            seconds, _ = best(program, text, stream)
+            seconds, _ = best(["run", text], stream)
             print(f"{names:<17} {seconds:<18.4f} {seconds / names * 1e6:.2f}")
 
 
