@@ -1,4 +1,4 @@
-use crate::{ReadError, print_text, read_text, texts_are_unique};
+use crate::{ReadError, print_text, read_text, texts_are_not_refused, texts_are_unique};
 use lps_terms::{LexRefused, ReadRefused};
 use std::alloc::Global;
 use std::process::Abort;
@@ -129,4 +129,5 @@ fn faults(rt: HostRuntime) {
 #[test]
 fn laws_hold() {
     texts_are_unique();
+    texts_are_not_refused();
 }

@@ -23,15 +23,15 @@ take_take (suc m) (suc n) (x ∷ ts) low = ap (λ (xs : List Tok). x ∷ xs) (ta
 split : (m n : ℕ) (ts : List Tok) → m ≤ n → take m ts ++ drop m (take n ts) ≡ take n ts
 split m n ts low = ap (λ xs. xs ++ drop m (take n ts)) (sym (take_take m n ts low)) ∙ take-append-drop m (take n ts)
 
-begins_first : (m n : ℕ) (ts : List Tok) → m ≤ n → BeginsText (take n ts) → BeginsText (take m ts)
+pub begins_first : (m n : ℕ) (ts : List Tok) → m ≤ n → BeginsText (take n ts) → BeginsText (take m ts)
 begins_first m n ts low b = begins_before (take m ts) (drop m (take n ts)) (subst BeginsText (sym (split m n ts low)) b)
 
-small_first : (m n : ℕ) (ts : List Tok) → m ≤ n → BeginsText (take n ts) → IsSmallText (take n ts) → IsSmallText (take m ts)
+pub small_first : (m n : ℕ) (ts : List Tok) → m ≤ n → BeginsText (take n ts) → IsSmallText (take n ts) → IsSmallText (take m ts)
 small_first m n ts low b small =
     let whole = sym (split m n ts low) in
     small_before (take m ts) (drop m (take n ts)) (subst BeginsText whole b) (subst IsSmallText whole small)
 
-begins_whole : (ts : List Tok) → IsText ts → BeginsText ts
+pub begins_whole : (ts : List Tok) → IsText ts → BeginsText ts
 begins_whole ts is = ([], subst IsText (sym (append-nil ts)) is)
 
 -- ---- where no variable is too many

@@ -1,3 +1,4 @@
 mod First
 mod Numbering
 pub mod Texts
+pub mod Unique

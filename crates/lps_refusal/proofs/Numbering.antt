@@ -36,6 +36,10 @@ count_numbered (Some k) toks = k + 1
 pub sizes : (bytes : List ℕ) (tokens : List Token) → length (toks_of bytes tokens) ≡ length tokens
 sizes bytes tokens = toks_size bytes no_names tokens
 
+-- a variable too many is one of the tokens for the grammar
+pub crowded_inside : (bytes : List ℕ) (tokens : List Token) (k : ℕ) → crowded_of bytes tokens ≡ Some k → k < length (toks_of bytes tokens)
+crowded_inside bytes tokens k found = let within = crowded_within bytes no_names 0 tokens k found in let size = sizes bytes tokens in omega (arith, within, size)
+
 pub are_judged : (bytes : List ℕ) (tokens : List Token) (crowded : Option ℕ) → crowded ≡ crowded_of bytes tokens → IsJudged (count_numbered crowded (toks_of bytes tokens)) crowded (toks_of bytes tokens)
 are_judged bytes tokens None is = refl
 are_judged bytes tokens (Some k) is =

@@ -1,5 +1,5 @@
 //! Refusals of four tokens, in the lines 1, 2, 2 and 3, and of small texts.
-use crate::{LONGEST_TEXT, first_refusal, numbered_text, refusal_of};
+use crate::{LONGEST_TEXT, first_refusal, numbered_text, refusal_of, refusals_exclude_each_other};
 use lps_lex::{Token, TokenKind, lex};
 use lps_numbering::number;
 use lps_syntax::TextVerdict;
@@ -90,4 +90,9 @@ fn one_byte_is_too_many(rt: HostRuntime) -> Result<(), AllocError> {
     let found = numbered_text(rt.alloc(), bytes.as_slice())?;
     assert!(rt; found.err() == Some(ReadRefused::TextTooLong));
     Ok(())
+}
+
+#[test]
+fn laws_hold() {
+    refusals_exclude_each_other();
 }
