@@ -4,6 +4,7 @@ pub mod Caused
 pub mod States
 pub mod Feeds
 pub mod Judging
+pub mod OneWay
 pub mod Reports
 pub mod Steps
 pub mod Pieces

@@ -5,7 +5,7 @@
 //! (`batch`), the causal update (`causal`), the run from cycle to cycle (`engine`) and the bytes of the report (`report`) stand
 //! here as private modules. It carries the headline: the clauses `told` and `checked` of `lps` say for each answer what was
 //! printed, in the words of the definitions, and clauses `usage`, `unread`, `limit`, `silent` and `caused` say when each
-//! answer comes.
+//! answer comes; a stream is judged in one way (`streams_are_judged_one_way`).
 #![tactic(auto)]
 
 mod answer;
@@ -13,6 +13,7 @@ mod batch;
 mod built;
 mod causal;
 mod engine;
+mod laws;
 mod loading;
 mod report;
 mod stop;
@@ -21,6 +22,7 @@ mod top;
 mod words;
 
 pub use answer::{Answer, UsageKind};
+pub use laws::streams_are_judged_one_way;
 pub use top::lps;
 
 #[cfg(test)]

@@ -3,13 +3,11 @@ ghost use Rattle.lps_run.specs.Loading.{FailsOnlyLong, IsMore, LoadCounted};
 ghost use Rattle.lps_run.specs.declared.loading.LoadError.TheVariants.{NoMemory};
 
 use lps_outside::Texts;
+use lps_refusal::LONGEST_TEXT;
 use std::alloc::{AllocError, AllocFailed, Global};
 
-/// How many bytes a text may have.
-const MOST_BYTES: usize = 1_048_576;
-
-/// How many reads reach the end of such a text or pass its limit.
-const MOST_READS: usize = 1_048_577;
+/// How many reads reach the end of the longest text or pass its limit.
+const MOST_READS: usize = LONGEST_TEXT + 1;
 
 /// Why the bytes of a text were not read.
 #[derive(Clone, Copy, Debug)]
@@ -50,7 +48,7 @@ fn load_more<T: Texts>(texts: &mut T, name: &str, bytes: &mut Vec<u8>) -> Result
         Ok(count) => count,
         Err(_) => return Err(LoadError::Fault),
     };
-    if count > MOST_BYTES - bytes.len() {
+    if count > LONGEST_TEXT - bytes.len() {
         return Err(LoadError::TooLong);
     }
     let (piece, _) = buffer.split_at(count);

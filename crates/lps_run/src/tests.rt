@@ -1,4 +1,4 @@
-use crate::{Answer, lps};
+use crate::{Answer, lps, streams_are_judged_one_way};
 use lps_memworld::{MemDesk, MemSource, MemTexts};
 use std::alloc::{AllocError, Global};
 use std::process::Abort;
@@ -216,6 +216,11 @@ fn checks(rt: HostRuntime) -> Result<(), Fail> {
         ..row
     };
     check_check(&rt, rt.alloc(), &refused)
+}
+
+#[test]
+fn laws_hold() {
+    streams_are_judged_one_way();
 }
 
 /// What is out after each print of the report of `SWITCH` over two batches.
