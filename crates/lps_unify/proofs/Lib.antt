@@ -1,0 +1,9 @@
+pub mod Sums
+pub mod Standings
+pub mod Keeping
+pub mod Arguments
+pub mod Steps
+pub mod Joins
+pub mod Places
+pub mod Lists
+pub mod Variables

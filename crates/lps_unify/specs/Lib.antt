@@ -1,0 +1,5 @@
+pub mod Weights
+pub mod Bindings
+pub mod Slots
+pub mod Unified
+pub mod Canonical
