@@ -1,5 +1,12 @@
 pub mod Program
 pub mod Signatures
+pub mod Declarations
+pub mod Order
+pub mod Occurrences
+pub mod Variables
+pub mod KindRefusals
+pub mod VariableLists
+pub mod Known
 pub mod Trace
 pub mod Holds
 pub mod Report

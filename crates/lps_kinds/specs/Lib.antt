@@ -1,0 +1,4 @@
+pub mod Table
+pub mod Names
+pub mod Faults
+pub mod Answer
