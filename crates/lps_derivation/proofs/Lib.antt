@@ -1,0 +1,5 @@
+pub mod Instances
+pub mod Trees
+pub mod Truth
+pub mod Reach
+mod Examples

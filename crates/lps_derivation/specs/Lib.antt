@@ -1,0 +1,6 @@
+pub mod Clauses
+pub mod Instances
+pub mod Derivation
+pub mod Levels
+pub mod Laws
+pub mod Examples

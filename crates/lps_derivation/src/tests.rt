@@ -1,0 +1,10 @@
+use crate::{example_law, level_law, reach_law, size_law, truth_law};
+
+#[test]
+fn laws_do_nothing() {
+    truth_law();
+    level_law();
+    reach_law();
+    size_law();
+    example_law();
+}
