@@ -1,5 +1,5 @@
 -- The small program of the examples: its levels, and what is true in it.
-use Rattle.std.proofs.Common.{◌≡◌, ◌↔◌, ◌≤◌, ◌<◌, ℕ, Bool, false, List, [], ◌∷◌, refl, sym, ap, subst, ◌∙◌, arith, inl, inr}
+use Rattle.std.proofs.Common.{◌≡◌, ◌↔◌, ◌≤◌, ◌<◌, ℕ, false, List, [], ◌∷◌, refl, sym, ap, subst, ◌∙◌, arith, inl, inr}
 use Rattle.std.specs.Prelude.{◌⊎◌, ◌+◌, Contains, IsTrue, codes, slice_index_or}
 use Rattle.std.specs.List.{AllByRecursion}
 use Rattle.lps_terms.specs.declared.atom.Atom.{Atom}
@@ -8,13 +8,13 @@ use Rattle.lps_terms.specs.declared.cond.Cond.TheVariants as c
 use Rattle.lps_terms.specs.declared.lit.Lit.{Lit}
 use Rattle.lps_terms.specs.declared.term.Term.{Term}
 use Rattle.lps_terms.specs.declared.term.Term.TheVariants as t
-use Rattle.lps_terms.specs.Forms.{fold-Sym}
 use Rattle.lps_terms.specs.Names.{is_proper_name, reserved}
 use Rattle.lps_terms.specs.Put.{put-Var}
 use Rattle.lps_terms.specs.Symbols.{symbols_of, symbols_of_all, symbols_of_all-cons, symbols_of-Sym}
 use Rattle.lps_model.proofs.Elements.{first_or_later, nothing_contained}
 use Rattle.lps_derivation.specs.Clauses.{Clause}
-use Rattle.lps_derivation.specs.Instances.{is_ground, ground_step, put_clause, IsInstance}
+use Rattle.lps_derivation.specs.Ground.{is_ground, is_ground-Sym}
+use Rattle.lps_derivation.specs.Instances.{put_clause, IsInstance}
 use Rattle.lps_derivation.specs.Levels.{IsUnder, AreLevels}
 use Rattle.lps_derivation.specs.Derivation.{IsDerived, IsMet, Follows, of_fact}
 use Rattle.lps_derivation.specs.Laws.{Passes}
@@ -78,11 +78,11 @@ one_of instance of_clauses =
 -- a constant is ground, and an atom of one constant is small
 a_is_ground : IsTrue (is_ground constant_a)
 unfolding is_proper_name reserved
-a_is_ground = fold-Sym Bool ground_step (codes "a")
+a_is_ground = is_ground-Sym (codes "a")
 
 b_is_ground : IsTrue (is_ground constant_b)
 unfolding is_proper_name reserved
-b_is_ground = fold-Sym Bool ground_step (codes "b")
+b_is_ground = is_ground-Sym (codes "b")
 
 small : (x : Term) (n : List ℕ) → x ≡ t.Sym n → 1 + symbols_of_all (x ∷ []) ≤ 1024
 small x n e =
@@ -95,7 +95,7 @@ second_instance = record {
   clause = second_clause (t.Var 0);
   among = (1, omega arith, refl);
   values = λ v. constant_a;
-  ground = λ v. a_is_ground;
+  all_ground = λ v. a_is_ground;
   put_in = sym (ap second_clause (put-Var (λ v. constant_a) 0));
   small_head = small constant_a (codes "a") refl;
   small_conds = (small constant_a (codes "a") refl, tt);
@@ -106,7 +106,7 @@ third_instance = record {
   clause = third_clause (t.Var 0);
   among = (2, omega arith, refl);
   values = λ v. constant_b;
-  ground = λ v. b_is_ground;
+  all_ground = λ v. b_is_ground;
   put_in = sym (ap third_clause (put-Var (λ v. constant_b) 0));
   small_head = small constant_b (codes "b") refl;
   small_conds = (small constant_b (codes "b") refl, tt);

@@ -1,3 +1,4 @@
+pub mod Puts
 pub mod Instances
 pub mod Trees
 pub mod Truth

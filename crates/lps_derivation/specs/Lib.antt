@@ -1,4 +1,6 @@
 pub mod Clauses
+pub mod Expressions
+pub mod Ground
 pub mod Instances
 pub mod Derivation
 pub mod Levels
