@@ -1,4 +1,3 @@
-pub mod Table
 pub mod Names
 pub mod Faults
 pub mod Answer

@@ -3,8 +3,7 @@ ghost use Rattle.lps_model.specs.Declarations.{decl_among};
 ghost use Rattle.lps_model.specs.KindRefusals.{is_undeclared as is_undeclared_of, is_wrong_arity as is_wrong_arity_of, is_wrong_kind as is_wrong_kind_of, may_stand as may_stand_of};
 ghost use Rattle.lps_kinds.specs.Faults.{is_fault, first_refusal as first_refusal_of, refusal_of};
 
-use crate::Kinds;
-use lps_model::{Occurrence, Place};
+use lps_model::{Kinds, Occurrence, Place};
 use lps_terms::{Decl, Kind, Refused};
 use std::alloc::{AllocError, Global};
 

@@ -6,11 +6,10 @@ ghost use Rattle.lps_kinds.specs.Answer.{IsRightError};
 
 use crate::error::KindsError;
 use crate::fault::{Fault, first_refusal};
-use crate::lookup::Kinds;
 use crate::occurrences::occurrences;
 use crate::statements::statement_refusal;
 use crate::twice::declared_twice;
-use lps_model::Occurrence;
+use lps_model::{Kinds, Occurrence};
 use lps_terms::{Refused, Text};
 use std::alloc::{AllocError, Global};
 

@@ -6,8 +6,7 @@
 //! refusals stands, and else the first of them in order at the first statement where it stands (clauses `declarations` and
 //! `refusal`).
 //!
-//! A call that answers `AllocError` says that memory ran out. Contracts see `Kinds` as the list of the declarations, and cite
-//! these definitions of the model:
+//! A call that answers `AllocError` says that memory ran out. Contracts cite these definitions of the model:
 //!
 //! | file | defines |
 //! |---|---|
@@ -17,20 +16,16 @@
 //! | `KindRefusals` | which kinds may stand at which place, each refusal, and which of them is the text's |
 #![tactic(auto)]
 
-mod copy;
 mod error;
 mod fault;
 mod judge;
-mod lookup;
 mod names;
 mod occurrences;
 mod statements;
-mod table;
 mod twice;
 
 pub use error::KindsError;
 pub use judge::kinds;
-pub use lookup::Kinds;
 
 #[cfg(test)]
 mod tests;

@@ -3,8 +3,7 @@ ghost use Rattle.std.specs.Prelude.{◌≡◌, ◌++◌, IfOk, OnOk};
 ghost use Rattle.std.specs.List.{flat_map};
 ghost use Rattle.lps_model.specs.Occurrences.{declaring, declaring_in, all_declared as all_declared_of, in_atom, in_body, in_cond, in_conds, in_item, in_items, occurrences as occurrences_of, place_under as place_under_of};
 
-use crate::Kinds;
-use lps_model::{Declaration, Occurrence, Place};
+use lps_model::{Declaration, Kinds, Occurrence, Place};
 use lps_terms::{Atom, Body, Cond, Decl, Item, Kind, Text};
 use sqlite_items::Items;
 use std::alloc::{AllocError, Global};

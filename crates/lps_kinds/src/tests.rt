@@ -1,6 +1,7 @@
 //! A text of a row stands below seven declarations: `fluent p/0`, `event e/0`, `action a/0`, `timeless t`, `derived d`,
 //! `macro m` and `fluent q/1`, one a line; each statement of a row has a line of its own, from line 8.
-use crate::{Kinds, kinds};
+use crate::kinds;
+use lps_model::Kinds;
 use lps_terms::{
     Atom, Body, Cond, Decl, Item, Kind, Lit, Name, Statement, Term, Text, TimeVar, args_of,
 };

@@ -24,7 +24,7 @@ use Rattle.lps_terms.specs.declared.term.Term.{Term}
 use Rattle.lps_terms.specs.declared.text.Text.{Text}
 use Rattle.lps_model.specs.Declarations.{decl_among}
 use Rattle.lps_model.specs.Program.{declarations}
-use Rattle.lps_model.specs.VariableLists.{term_vars, args_vars, atom_vars, expr_vars, built_vars, cond_vars, item_vars, step_times}
+use Rattle.lps_model.specs.VariableLists.{term_vars, args_vars, atom_vars, expr_vars, cond_vars, item_vars, step_times}
 
 -- ---- sets of known variables, each variable once
 

@@ -8,6 +8,8 @@ use Rattle.lps_terms.specs.declared.item.Item.{Item}
 use Rattle.lps_terms.specs.declared.item.Item.TheVariants as i
 use Rattle.lps_terms.specs.declared.kind.Kind.{Kind}
 use Rattle.lps_terms.specs.declared.kind.Kind.TheVariants as k
+use Rattle.lps_terms.specs.declared.refused.Refused.{Refused}
+use Rattle.lps_terms.specs.declared.refused.Refused.TheVariants.{OutOfOrder, MixedGroup, BadHeadTimes}
 use Rattle.lps_terms.specs.declared.statement.Statement.{Statement}
 
 -- ---- groups and steps
@@ -218,3 +220,15 @@ has_bad_head_times kind _ = false
 abbrev pub first_line : (Body → Bool) → List Statement → Option ℕ
 first_line test [] = None
 first_line test (statement ∷ rest) = if test statement.body then Some statement.line else first_line test rest
+
+-- the refusal at the first of three lines that is there
+abbrev pub refusal_at : Option ℕ → Option ℕ → Option ℕ → Option Refused
+refusal_at (Some line) groups heads = Some (OutOfOrder line)
+refusal_at None (Some line) heads = Some (MixedGroup line)
+refusal_at None None (Some line) = Some (BadHeadTimes line)
+refusal_at None None None = None
+
+-- the refusal with the least number that stands anywhere in these statements, at the first one where it stands
+abbrev pub order_refusal : (List ℕ → Option Kind) → List Statement → Option Refused
+order_refusal kind statements =
+    refusal_at (first_line (is_out_of_order kind) statements) (first_line (is_mixed_somewhere kind) statements) (first_line (has_bad_head_times kind) statements)

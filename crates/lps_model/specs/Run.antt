@@ -9,12 +9,14 @@ use Rattle.lps_terms.specs.Order.{atom_cmp}
 use Rattle.lps_model.specs.declared.verdict.Verdict.TheVariants.{Admitted}
 use Rattle.lps_model.specs.declared.cycle.Cycle.{Cycle}
 use Rattle.lps_model.specs.declared.trace.Trace.{Trace}
-use Rattle.lps_model.specs.Program.{signature_of, initial_atoms}
+use Rattle.lps_model.specs.Declarations.{arity_among, kind_among}
+use Rattle.lps_model.specs.Program.{declarations, initial_atoms}
 use Rattle.lps_model.specs.Trace.{then_cycle}
 
 -- an event that a batch may bring: a declared event, with its number of arguments
-abbrev pub IsExternal : Text → Atom → Type 0
-IsExternal text event = signature_of text event.name ≡ Some (record { kind = k.Event; arity = length event.args })
+pub record IsExternal (text : Text) (event : Atom) : Type 0 where
+  pub kind : kind_among (declarations text) event.name ≡ Some k.Event
+  pub arity : arity_among (declarations text) event.name ≡ Some (length event.args)
 
 -- The cycle may follow the trace. Texts built so far have no denials, so each event is admitted, and no rules, so nothing
 -- is picked.

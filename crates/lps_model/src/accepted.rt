@@ -1,17 +1,20 @@
-ghost use Rattle.std.specs.Prelude.{◌≡◌, IfOk};
-ghost use Rattle.lps_model.specs.Signatures.{IsTableOf};
-ghost use Rattle.lps_model.specs.Program.{declarations, signature_of};
+ghost use Rattle.std.specs.Prelude.{◌≡◌, IsTrue, None, option_copied};
+ghost use Rattle.lps_model.specs.Acceptance.{early_refusal, IsAccepted};
+ghost use Rattle.lps_model.specs.Declarations.{arity_among, decl_among, kind_among};
+ghost use Rattle.lps_model.specs.Formed.{is_formed};
+ghost use Rattle.lps_model.specs.Levels.{AreLevelsOf};
+ghost use Rattle.lps_model.specs.Program.{declarations};
 
-use crate::{Signature, Signatures};
-use lps_terms::{Name, Text};
-use std::alloc::{AllocError, Global};
+use crate::{Kinds, Levels};
+use lps_terms::{Decl, Kind, Name, Text};
 use std::marker::Model;
 
-/// A text with the table of its signatures, so that the signature of a name is found at once. Contracts see the text.
+/// An accepted text, with its declarations and the levels of its names. Contracts see the text.
 #[derive(Drop)]
 pub struct Accepted {
     text: Text,
-    signatures: Signatures,
+    kinds: Kinds,
+    levels: Levels,
 }
 
 impl Model for Accepted {
@@ -19,8 +22,7 @@ impl Model for Accepted {
     ghost use Rattle.lps_terms.specs.contracts.expr.Expr as expr;
     ghost use Rattle.lps_terms.specs.contracts.term.Term as term;
     ghost use Rattle.std.specs.Coded.{codes};
-    ghost use Rattle.lps_model.specs.Signatures.{IsTableOf};
-    ghost use Rattle.lps_model.specs.Program.{declarations};
+    ghost use Rattle.lps_model.specs.Accepted.{IsAdopted};
 
     ghost Value = { Text };
 
@@ -28,39 +30,59 @@ impl Model for Accepted {
 
     ghost view = { λ accepted. accepted.text };
 
-    ghost invariant = { λ accepted. IsTableOf (declarations accepted.text) accepted.signatures };
+    ghost invariant = { λ accepted. IsAdopted accepted.text accepted.kinds accepted.levels };
 }
 
 impl Accepted {
-    /// The text with its table, which is made in one pass over the declarations.
-    pub fn new(alloc: Global, text: Text) -> Result<Accepted, AllocError>
-        ensures { IfOk result (λ accepted. accepted ≡ text) }
+    /// The accepted text that has these declarations and these levels. Nothing is tested or copied.
+    pub fn adopt(text: Text, kinds: Kinds, levels: Levels) -> Accepted
+        requires declared { kinds ≡ declarations text }
+        requires not_refused { early_refusal text ≡ None }
+        requires levelled { AreLevelsOf text levels }
+        requires formed { IsTrue (is_formed text) }
+        ensures { result ≡ text }
     {
-        let signatures = signatures_of(alloc, &text)?;
-        Ok(Accepted { text, signatures })
+        Accepted {
+            text,
+            kinds,
+            levels,
+        }
     }
 
+    /// The text, which is well-formed and accepted.
     pub fn text(&self) -> &Text
-        ensures { result.now ≡ self.now }
+        ensures same { result.now ≡ self.now }
+        ensures accepted { IsAccepted self.now }
+        ensures formed { IsTrue (is_formed self.now) }
     {
         &self.text
     }
 
-    /// The signature of a name, where the text declares it.
-    pub fn signature(&self, name: &Name) -> Option<Signature>
-        ensures { result ≡ signature_of self.now name.now }
+    /// The first declaration of a name.
+    pub fn decl(&self, name: &Name) -> Option<&Decl>
+        ensures { option_copied result ≡ decl_among (declarations self.now) name.now }
     {
-        self.signatures.signature(name)
+        self.kinds.decl(name)
     }
-}
 
-/// The table of the declarations of a text.
-fn signatures_of(alloc: Global, text: &Text) -> Result<Signatures, AllocError>
-    ensures { IfOk result (λ signatures. IsTableOf (declarations text.now) signatures) }
-{
-    let mut signatures = Signatures::new(alloc);
-    for statement in text.statements.as_slice() {
-        signatures.declare_all(alloc, &statement.body)?;
+    /// The kind of a name, where it is declared.
+    pub fn kind(&self, name: &Name) -> Option<Kind>
+        ensures { result ≡ kind_among (declarations self.now) name.now }
+    {
+        self.kinds.kind(name)
     }
-    Ok(signatures)
+
+    /// How many arguments a name is declared with, where it is declared.
+    pub fn arity(&self, name: &Name) -> Option<u32>
+        ensures { result ≡ arity_among (declarations self.now) name.now }
+    {
+        self.kinds.arity(name)
+    }
+
+    /// Levels for the calls of the text, with one for each timeless, derived and macro name.
+    pub fn levels(&self) -> &Levels
+        ensures { AreLevelsOf self.now result.now }
+    {
+        &self.levels
+    }
 }

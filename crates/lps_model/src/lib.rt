@@ -8,13 +8,15 @@
 
 mod accepted;
 mod batch;
+mod copy;
 mod cycle;
 mod declaration;
+mod kinds;
 mod laws;
+mod levels;
 mod occurrence;
 mod place;
-mod signature;
-mod signatures;
+mod table;
 mod trace;
 mod verdict;
 
@@ -22,10 +24,10 @@ pub use accepted::Accepted;
 pub use batch::Batch;
 pub use cycle::{Cycle, Group, Pick};
 pub use declaration::Declaration;
+pub use kinds::Kinds;
 pub use laws::{growth_law, state_law, unique_law};
+pub use levels::Levels;
 pub use occurrence::Occurrence;
 pub use place::Place;
-pub use signature::Signature;
-pub use signatures::Signatures;
 pub use trace::Trace;
 pub use verdict::Verdict;

@@ -9,7 +9,7 @@ use crate::scope::Scope;
 use crate::variables::{
     append_args, append_atom, append_expr, append_exprs, append_term, append_terms,
 };
-use lps_kinds::Kinds;
+use lps_model::Kinds;
 use lps_terms::{Atom, Built, Cond, Item, Kind, Lit, Mode, Term};
 use std::alloc::{AllocError, Global};
 

@@ -1,4 +1,4 @@
-use lps_kinds::Kinds;
+use lps_model::Kinds;
 use lps_terms::Name;
 
 /// Where items stand.

@@ -9,7 +9,7 @@ use crate::needs::append_atom_needs;
 use crate::scope::Scope;
 use crate::sequences::{conds_unknown, items_unknown, learn_items, learn_steps};
 use crate::variables::append_atom;
-use lps_kinds::Kinds;
+use lps_model::Kinds;
 use lps_terms::{Atom, Body, Cond, Item, Name, Statement};
 use sqlite_items::Items;
 use std::alloc::{AllocError, Global};

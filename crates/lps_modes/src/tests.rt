@@ -1,7 +1,7 @@
 //! The statement of a row stands on line 2, below `fluent s/1. event e/1. action a/1. derived r(-, +). macro m(*, -).` on
 //! line 1. Its variables are `X`, `Y` and `Z`, and its times `T0` to `T4`.
 use crate::{learning_is_union, modes, none_is_unknown};
-use lps_kinds::Kinds;
+use lps_model::Kinds;
 use lps_terms::{
     Atom, Body, Built, Con, Cond, Decl, Expr, Item, Kind, Lit, Mode, Name, Op, Rel, Statement,
     Term, Text, TimeRel, TimeVar,

@@ -5,7 +5,7 @@ ghost use Rattle.lps_modes.specs.Answers.{IsFirstUnknown};
 
 use crate::modes_error::ModesError;
 use crate::statements::statement_unknown;
-use lps_kinds::Kinds;
+use lps_model::Kinds;
 use lps_terms::{Refused, Statement, Text};
 use std::alloc::{AllocError, Global};
 

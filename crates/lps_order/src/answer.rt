@@ -1,11 +1,11 @@
-ghost use Rattle.std.specs.Prelude.{◌≡◌, IfOk, MatchResult};
+ghost use Rattle.std.specs.Prelude.{◌≡◌, None, IfOk, MatchResult};
 ghost use Rattle.lps_model.specs.Declarations.{kind_among};
-ghost use Rattle.lps_model.specs.Order.{first_line, has_bad_head_times, is_mixed_somewhere, is_out_of_order};
-ghost use Rattle.lps_order.specs.Answers.{IsOrdered, IsRefusedFor, refusal_in};
+ghost use Rattle.lps_model.specs.Order.{first_line, has_bad_head_times, is_mixed_somewhere, is_out_of_order, order_refusal};
+ghost use Rattle.lps_order.specs.Answers.{IsRightError};
 
 use crate::body::{has_bad_head_times, is_mixed_somewhere, is_out_of_order};
 use crate::error::OrderError;
-use lps_kinds::Kinds;
+use lps_model::Kinds;
 use lps_terms::{Refused, Statement, Text};
 use std::alloc::{AllocError, Global};
 
@@ -16,12 +16,11 @@ use std::alloc::{AllocError, Global};
 /// or a macro body has both an event and an action; `BadHeadTimes`, where the times of a macro clause are not the begin of
 /// its first step and the end of its last. `NoMemory` may come at any time and says nothing of the text.
 pub fn ordered(alloc: Global, text: &Text, kinds: &Kinds) -> Result<(), OrderError>
-    ensures { MatchResult result (λ _. IsOrdered (kind_among kinds.now) text.now.statements) (λ error. IsRefusedFor (kind_among kinds.now) text.now.statements error) }
+    ensures { MatchResult result (λ _. order_refusal (kind_among kinds.now) text.now.statements ≡ None) (IsRightError (kind_among kinds.now) text.now.statements) }
 {
-    match refusal(alloc, text.statements.as_slice(), kinds) {
-        Ok(None) => Ok(()),
-        Ok(Some(refused)) => Err(OrderError::Refused(refused)),
-        Err(_) => Err(OrderError::NoMemory),
+    match refusal(alloc, text.statements.as_slice(), kinds)? {
+        Some(refused) => Err(OrderError::Refused(refused)),
+        None => Ok(()),
     }
 }
 
@@ -30,7 +29,7 @@ fn refusal(
     statements: &[Statement],
     kinds: &Kinds,
 ) -> Result<Option<Refused>, AllocError>
-    ensures { IfOk result (λ found. found ≡ refusal_in (kind_among kinds.now) statements.now) }
+    ensures { IfOk result (λ found. found ≡ order_refusal (kind_among kinds.now) statements.now) }
 {
     if let Some(line) = first_out_of_order(alloc, statements, kinds)? {
         return Ok(Some(Refused::OutOfOrder { line }));

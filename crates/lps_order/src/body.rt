@@ -9,7 +9,7 @@ use crate::denial::is_denial_ordered;
 use crate::sequence::{begins, ends, follows, has_mixed, is_ordered};
 use crate::times::times_in;
 use crate::walk::is_time;
-use lps_kinds::Kinds;
+use lps_model::Kinds;
 use lps_terms::{Body, Item};
 use sqlite_items::Items;
 use std::alloc::{AllocError, Global};

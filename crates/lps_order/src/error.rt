@@ -1,4 +1,8 @@
+ghost use Rattle.std.specs.Prelude.{◌≡◌};
+ghost use Rattle.lps_order.specs.declared.error.OrderError.TheVariants.{NoMemory};
+
 use lps_terms::Refused;
+use std::alloc::AllocError;
 use thiserror::Error;
 
 /// Why the order of a text was not found right.
@@ -9,6 +13,14 @@ pub enum OrderError {
     NoMemory,
     /// `OutOfOrder`, `MixedGroup` or `BadHeadTimes`: the first of these three that stands anywhere in the text, with the
     /// line of the first statement where it does.
-    #[error("{0}")]
+    #[error(transparent)]
     Refused(Refused),
+}
+
+impl From<AllocError> for OrderError {
+    ghost from_gives = { λ _ error. error ≡ NoMemory };
+
+    fn from(_error: AllocError) -> OrderError {
+        OrderError::NoMemory
+    }
 }

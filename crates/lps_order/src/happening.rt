@@ -2,7 +2,7 @@ ghost use Rattle.std.specs.Prelude.{◌≡◌};
 ghost use Rattle.lps_model.specs.Declarations.{kind_among};
 ghost use Rattle.lps_order.specs.Walking.{are_joined, are_mixed, happening_of, happening_with};
 
-use lps_kinds::Kinds;
+use lps_model::Kinds;
 use lps_terms::{Item, Kind};
 
 /// An event or an action of a sequence: its two times, and which of both it is.

@@ -6,7 +6,7 @@ ghost use Rattle.lps_order.specs.Walking.{begins, end_with, ends_after, follows,
 
 use crate::happening::{are_mixed, happening_in};
 use crate::walk::Walk;
-use lps_kinds::Kinds;
+use lps_model::Kinds;
 use lps_terms::Item;
 use std::alloc::{AllocError, Global};
 

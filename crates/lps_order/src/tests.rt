@@ -1,7 +1,7 @@
 //! The text of a row stands below one line that declares the fluent `p`, the timeless `t`, the events `e` and `f`, the actions
 //! `a` and `b` and the macro `m`; each statement of a row has a line of its own, from line 2.
 use crate::ordered;
-use lps_kinds::Kinds;
+use lps_model::Kinds;
 use lps_terms::{Atom, Body, Con, Decl, Item, Kind, Lit, Name, Statement, Text, TimeRel, TimeVar};
 use sqlite_items::Items;
 use std::alloc::Global;

@@ -6,7 +6,7 @@ ghost use Rattle.lps_order.specs.Walking.{noted, walks};
 
 use crate::happening::{Happening, are_joined, happening_in};
 use crate::times::{note, occurs};
-use lps_kinds::Kinds;
+use lps_model::Kinds;
 use lps_terms::Item;
 use std::alloc::AllocError;
 

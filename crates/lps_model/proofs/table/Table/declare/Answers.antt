@@ -1,6 +1,6 @@
 use Rattle.std.proofs.Common.{sym}
-use Rattle.lps_kinds.proofs.Tables.{declared_new, declared_before}
-use Rattle.lps_kinds.proofs.table.Table.declare.Goals as goal
+use Rattle.lps_model.proofs.Tables.{declared_new, declared_before}
+use Rattle.lps_model.proofs.table.Table.declare.Goals as goal
 
 pub returns-then-has : goal.returns-then-has
 returns-then-has c = λ decls table. declared_before decls c.args.decl.now c.args.self.now table (sym c.if-has.ensures)

@@ -1,5 +1,5 @@
 use Rattle.std.proofs.Common.{◌≡◌, ◌++◌, take}
-use Rattle.lps_kinds.proofs.lookup.add_declared.Given as goal
+use Rattle.lps_model.proofs.kinds.add_declared.Given as goal
 
 -- the declarations so far are copied
 abbrev pub invariant-loop-decl : goal.invariant-loop-decl

@@ -22,7 +22,7 @@ impl Model for Table {
 impl Table {
     ghost use Rattle.std.specs.Prelude.{◌≡◌, ◌++◌, ◌∷◌, [], List, IfOk, OnOk, is_some, option_copied};
     ghost use Rattle.lps_terms.specs.declared.decl.Decl.{Decl as Declared};
-    ghost use Rattle.lps_kinds.specs.Table.{decl_named, IsTableOf};
+    ghost use Rattle.lps_model.specs.Table.{decl_named, IsTableOf};
 
     /// The table of no declarations.
     pub fn new(alloc: Global) -> Table

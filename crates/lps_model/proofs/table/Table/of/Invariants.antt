@@ -1,6 +1,6 @@
 use Rattle.std.proofs.Common.{take}
-use Rattle.lps_kinds.specs.Table.{IsTableOf}
-use Rattle.lps_kinds.proofs.table.Table.of.Given as goal
+use Rattle.lps_model.specs.Table.{IsTableOf}
+use Rattle.lps_model.proofs.table.Table.of.Given as goal
 
 -- the declarations so far are noted
 abbrev pub invariant-loop-decl : goal.invariant-loop-decl

@@ -18,7 +18,7 @@ pub struct Kinds {
 impl Model for Kinds {
     ghost use Rattle.std.specs.Prelude.{List};
     ghost use Rattle.lps_terms.specs.declared.decl.Decl.{Decl};
-    ghost use Rattle.lps_kinds.specs.Table.{IsTableOf};
+    ghost use Rattle.lps_model.specs.Table.{IsTableOf};
 
     ghost Value = { List Decl };
 
