@@ -1,0 +1,10 @@
+pub mod Ways
+pub mod Graphs
+pub mod Spreading
+pub mod LeastWays
+pub mod Judging
+pub mod Subterms
+pub mod Numbers
+pub mod Heads
+pub mod Adding
+pub mod Tables
