@@ -1,0 +1,3 @@
+mod Along
+mod Trees
+mod Texts
