@@ -13,8 +13,7 @@ from pathlib import Path
 TOP = Path(__file__).resolve().parent.parent
 PROGRAM = sys.argv[1] if len(sys.argv) > 1 else str(TOP / "crates/lps_prog/out/lps_prog")
 
-GOOD_TEXT = "fluent p/0.\n"
-SWITCH = "fluent p/0.\nevent e/0, g/0.\n"
+SWITCH = "fluent p/0.\nevent e/0, g/2.\n"
 
 
 def name(length):
@@ -27,64 +26,85 @@ def nested(symbols):
 
 
 def variables(count):
-    """A fact with so many different variables, in terms of at most 64 arguments."""
+    """A head with so many different variables, in terms of at most 64 arguments."""
     groups = [range(first, min(first + 64, count)) for first in range(0, count, 64)]
-    return f"p({', '.join('f(' + ', '.join(f'X{i}' for i in group) + ')' for group in groups)})"
+    return f"four({', '.join('f(' + ', '.join(f'X{i}' for i in group) + ')' for group in groups)})"
+
+
+# What the statements of the texts below speak of, in one line, and a line that says nothing new.
+DECLARED = (
+    "fluent p/0, q/1, two/2, wide/64, s/1. event e/0. action a/0. macro m. "
+    "derived d, i, g(-), r(+), four(+, +, +, +), all(" + ", ".join("+" * 64) + ").\n"
+)
+SAID = "initially p.\n"
 
 
 # What stands in one line, and how a text is refused for it; None where it is read.
 TEXTS = [
     ("initially q!.", "bad byte"),
-    ("initially " + name(64) + ".", None),
-    ("initially " + name(65) + ".", "name too long"),
-    ("p(X" + "x" * 63 + ").", None),
-    ("p(X" + "x" * 64 + ").", "name too long"),
-    ("p(9223372036854775807, -9223372036854775808).", None),
-    ("p(9223372036854775808).", "bad syntax"),
-    ("p(-9223372036854775809).", "number too large"),
-    ("p(9223372036854775809).", "number too large"),
-    ("fluent q/64.", None),
-    ("fluent q/65.", "bad syntax"),
-    ("p(" + ", ".join("a" * 64) + ").", None),
-    ("p(" + ", ".join("a" * 65) + ").", "bad syntax"),
-    ("timeless q(*, -, +).", None),
-    ("timeless q(*, *).", "bad syntax"),
-    ("q :- p.", "bad syntax"),
-    ("p if (X) = 3.", "bad syntax"),
+    ("fluent " + name(64) + "/0.", None),
+    ("fluent " + name(65) + "/0.", "name too long"),
+    ("r(X" + "x" * 63 + ").", None),
+    ("r(X" + "x" * 64 + ").", "name too long"),
+    ("initially two(9223372036854775807, -9223372036854775808).", None),
+    ("initially q(9223372036854775808).", "bad syntax"),
+    ("initially q(-9223372036854775809).", "number too large"),
+    ("initially q(9223372036854775809).", "number too large"),
+    ("fluent most/64.", None),
+    ("fluent most/65.", "bad syntax"),
+    ("initially wide(" + ", ".join("a" * 64) + ").", None),
+    ("initially wide(" + ", ".join("a" * 65) + ").", "bad syntax"),
+    ("timeless marked(*, -, +).", None),
+    ("timeless marked(*, *).", "bad syntax"),
+    ("d :- p.", "bad syntax"),
+    ("d if (X) = 3.", "bad syntax"),
     (variables(255) + ".", None),
     (variables(256) + ".", "too many variables"),
-    ("p(" + ", ".join("_" * 64) + ").", None),
+    ("all(" + ", ".join("_" * 64) + ").", None),
     ("initially " + nested(1024) + ".", None),
     ("initially " + nested(1025) + ".", "term too large"),
-    ("p if " + "(" * 1023 + "1" + ")" * 1023 + " < 3.", None),
-    ("p if " + "(" * 1024 + "1" + ")" * 1024 + " < 3.", "term too large"),
+    ("d if " + "(" * 1023 + "1" + ")" * 1023 + " < 3.", None),
+    ("d if " + "(" * 1024 + "1" + ")" * 1024 + " < 3.", "term too large"),
     ("if p at T then p at T1, T1 =< T + 1000000.", None),
     ("if p at T then p at T1, T1 =< T + 1000001.", "bad syntax"),
     ("false e from T1 to T2, T1 < T2.", "bad syntax"),
 ]
 
-# What stands in the line of cycle 1, and how the stream is refused for it; None where the cycle is made. So far events are run
-# without arguments alone, so a line of the language with an argument is refused for that, after all that it could be refused
-# for before.
+# Why a text that is read is not accepted, in the order in which the reasons count.
+NOT_ACCEPTED = [
+    ("initially x.", "undeclared x"),
+    ("fluent y/0, y/1.", "declared twice y"),
+    ("initially p(a).", "wrong arity p"),
+    ("initially e.", "wrong kind e"),
+    ("initially q(X).", "not ground"),
+    ("false p at T.", "no event"),
+    ("if e from T1 to T2 then p at T1.", "out of order"),
+    ("if p at T then e from T1 to T2, a from T1 to T2.", "mixed group"),
+    ("m from T1 to T3 if a from T1 to T2.", "bad head times"),
+    ("g(X) if p.", "unknown X"),
+    ("d if i. i if not d.", "unlevelled d, i"),
+]
+
+# What stands in the line of cycle 1, and how the stream is refused for it; None where the cycle is made.
 LINES = [
     ("1: e.", None),
-    (" 1 : e , g( a,-3 ) . % two", "wrong arity"),
-    (" 1 : e , g . % two", None),
+    (" 1 : e , g( a,-3 ) . % two", None),
+    (" 1 : e , g . % two", "wrong arity"),
     ("001: .", None),
     ("1: e", "bad line"),
     ("1: e. 2", "bad line"),
     ("1: g(X, a).", "bad line"),
     ("1: % none", "bad line"),
     ("1: e!.", "bad line"),
-    ("1: g(" + name(64) + ", a).", "wrong arity"),
+    ("1: g(" + name(64) + ", a).", None),
     ("1: g(" + name(65) + ", a).", "bad line"),
     ("1: g(9223372036854775808, a).", "bad line"),
     ("9223372036854775808: .", "expected 1, got 9223372036854775808"),
     ("9223372036854775809: .", "bad line"),
-    ("1: g(" + nested(1022) + ", a).", "wrong arity"),
+    ("1: g(" + nested(1022) + ", a).", None),
     ("1: g(" + nested(1023) + ", a).", "term too large"),
-    ("1: g(" + nested(1021) + ", -5).", "wrong arity"),
-    ("1: g(" + nested(1022) + ", -5).", "wrong arity"),
+    ("1: g(" + nested(1021) + ", -5).", None),
+    ("1: g(" + nested(1022) + ", -5).", None),
     ("1: g(" + nested(1023) + ", -a).", "term too large"),
     ("1: " + ", ".join("e" for _ in range(1000)) + ".", None),
     ("1: " + ", ".join("e" for _ in range(1001)) + ".", "too many events"),
@@ -108,15 +128,28 @@ def answer(words, stream):
 
 
 def expected(code, what, line, refusal):
-    return (0, "") if refusal is None else (code, f"lps: {what} line {line}: {refusal}")
+    if refusal is None:
+        return 0, ""
+    if refusal.startswith("unlevelled"):
+        return code, f"lps: {refusal}"
+    return code, f"lps: {what} line {line}: {refusal}"
+
+
+def around(statement):
+    """The statement in the first, a middle and the last line of a text, each with the number of its line."""
+    lines = [DECLARED, SAID]
+    for before in range(3):
+        yield before + 1, "".join([*lines[:before], statement + "\n", *lines[before:]])
 
 
 def text_cases():
-    for statement, refusal in TEXTS:
-        for before, after in ((0, 2), (1, 1), (2, 0)):
-            text = GOOD_TEXT * before + statement + "\n" + GOOD_TEXT * after
-            wanted = expected(3, "text", before + 1, refusal)
-            yield f"text, line {before + 1}: {statement[:40]}", text, wanted
+    for statement, refusal in [*TEXTS, *NOT_ACCEPTED]:
+        for line, text in around(statement):
+            yield f"text, line {line}: {statement[:40]}", text, expected(3, "text", line, refusal)
+    for number, (statement, refusal) in enumerate(NOT_ACCEPTED):
+        for later, _ in NOT_ACCEPTED[number + 1 :]:
+            text = f"{later}\n{DECLARED}{statement}\n"
+            yield f"text, for the first of two reasons: {refusal}", text, expected(3, "text", 3, refusal)
     yield "an unended statement", "p.\nq.\nr(\n\n", (3, "lps: text line 3: bad syntax")
     yield "the longest text", "%" * 1_048_576, (0, "")
     yield "a text that is too long", "%" * 1_048_577, (3, "lps: text too long")

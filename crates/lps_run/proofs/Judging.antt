@@ -10,8 +10,8 @@ use Rattle.lps_terms.specs.declared.batch_kind.BatchKind.{BatchKind}
 use Rattle.lps_terms.specs.declared.batch_kind.BatchKind.TheVariants.{WrongArity}
 use Rattle.lps_terms.specs.declared.text.Text.{Text}
 use Rattle.lps_model.specs.declared.batch.Batch.{Batch}
-use Rattle.lps_model.specs.declared.signature.Signature.{Signature}
-use Rattle.lps_model.specs.Program.{signature_of}
+use Rattle.lps_model.specs.Declarations.{arity_among, kind_among}
+use Rattle.lps_model.specs.Program.{declarations}
 use Rattle.lps_model.specs.Run.{IsExternal}
 use Rattle.lps_batches.specs.Lines.{IsPassed}
 use Rattle.lps_batches.specs.Stream.{Skipped}
@@ -60,11 +60,13 @@ event_kind : (kind : Kind) → fault_of_kind kind ≡ None → kind ≡ k.Event
 event_kind k.Event e = refl
 event_kind other e = absurd cc
 
-fitting : (signature : Option Signature) (count : ℕ) → fault_by signature count ≡ None → signature ≡ Some (record { kind = k.Event; arity = count })
-fitting None count e = absurd cc
-fitting (Some signature) count e = by_test (eqb signature.arity count) refl e where
-  by_test : (test : Bool) → eqb signature.arity count ≡ test → (if test then fault_of_kind signature.kind else Some WrongArity) ≡ None → Some signature ≡ Some (record { kind = k.Event; arity = count })
-  by_test true same e = λ i. Some (record { kind = event_kind signature.kind e i; arity = eqb-true signature.arity count same i })
+fitting : (kind : Option Kind) (arity : Option ℕ) (count : ℕ) → fault_by kind arity count ≡ None → (kind ≡ Some k.Event) × (arity ≡ Some count)
+fitting None None count e = absurd cc
+fitting None (Some arity) count e = absurd cc
+fitting (Some kind) None count e = absurd cc
+fitting (Some kind) (Some arity) count e = by_test (eqb arity count) refl e where
+  by_test : (test : Bool) → eqb arity count ≡ test → (if test then fault_of_kind kind else Some WrongArity) ≡ None → (Some kind ≡ Some k.Event) × (Some arity ≡ Some count)
+  by_test true same e = ((λ i. Some (event_kind kind e i)), (λ i. Some (eqb-true arity count same i)))
   by_test false other e = absurd cc
 
 neither : (a b : Option BatchKind) → or_else a b ≡ None → (a ≡ None) × (b ≡ None)
@@ -75,7 +77,8 @@ external : (text : Text) (events : List Atom) → events_fault text events ≡ N
 external text [] e = tt
 external text (event ∷ events) e =
     let both = neither (event_fault text event) (events_fault text events) e in
-    (fitting (signature_of text event.name) (length event.args) both.0, external text events both.1)
+    let fits = fitting (kind_among (declarations text) event.name) (arity_among (declarations text) event.name) (length event.args) both.0 in
+    (record { kind = fits.0; arity = fits.1 }, external text events both.1)
 
 pub batch_external : (text : Text) (expected : ℕ) (batch : Batch) → batch_fault text expected batch ≡ None → AllByRecursion (IsExternal text) batch.events
 batch_external text expected batch e = external text batch.events (neither (events_fault text batch.events) (number_fault expected batch.number) e).0

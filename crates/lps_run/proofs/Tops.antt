@@ -1,5 +1,5 @@
 -- The answers of the top call.
-use Rattle.std.proofs.Common.{◌≡◌, ℕ, ◌<◌, ◌+◌, ◌^◌, List, length, Option, Some, Result, Ok, Err, refl, subst, inl, inr, arith, MatchResult}
+use Rattle.std.proofs.Common.{◌≡◌, ℕ, ◌<◌, ◌+◌, ◌^◌, List, length, Option, Some, Result, Ok, Err, refl, sym, subst, inl, inr, arith, IfErr, MatchResult}
 use Rattle.std.specs.Prelude.{◌↔◌}
 use Rattle.lps_terms.specs.declared.text.Text.{Text}
 use Rattle.lps_terms.specs.declared.text_refused.TextRefused.TheVariants as reason
@@ -85,12 +85,12 @@ early_no_usage answers.StreamLimit h = tt
 early_no_usage answers.EventFault h = tt
 early_no_usage answers.PrintFault h = tt
 
--- ---- a text that was not read
+-- ---- a text that was not read, or not accepted
 
 pub early_answered : (all stream start : List ℕ) (printed : Option (List ℕ)) (source : Option Stream) (answer : Answer) → RefusedAs all answer → printed ≡ Some start → Answered all stream start printed source answer
 early_answered all stream start printed source (answers.TextRefused (reason.Read refusal)) h told = (h, told)
 early_answered all stream start printed source (answers.TextRefused (reason.NotBuilt line)) h told = absurd h
-early_answered all stream start printed source (answers.TextRefused (reason.NotAccepted refused)) h told = absurd h
+early_answered all stream start printed source (answers.TextRefused (reason.NotAccepted refused)) h told = (h, told)
 early_answered all stream start printed source answers.TextFault h told = told
 early_answered all stream start printed source answers.NoMemory h told = inl told
 early_answered all stream start printed source answers.Done h told = absurd h
@@ -105,7 +105,7 @@ early_answered all stream start printed source answers.PrintFault h told = absur
 pub early_checked : (all start : List ℕ) (printed : Option (List ℕ)) (answer : Answer) → RefusedAs all answer → printed ≡ Some start → AnsweredCheck all start printed answer
 early_checked all start printed (answers.TextRefused (reason.Read refusal)) h told = (h, told)
 early_checked all start printed (answers.TextRefused (reason.NotBuilt line)) h told = absurd h
-early_checked all start printed (answers.TextRefused (reason.NotAccepted refused)) h told = absurd h
+early_checked all start printed (answers.TextRefused (reason.NotAccepted refused)) h told = (h, told)
 early_checked all start printed answers.TextFault h told = told
 early_checked all start printed answers.NoMemory h told = told
 early_checked all start printed answers.Done h told = absurd h
@@ -130,3 +130,9 @@ early_caused (answers.BatchRefused line k) texts texts' reads prints kind c = ab
 early_caused answers.StreamLimit texts texts' reads prints kind c = absurd kind
 early_caused answers.EventFault texts texts' reads prints kind c = absurd kind
 early_caused answers.PrintFault texts texts' reads prints kind c = absurd kind
+
+-- the counts of a text that was judged with no call of an object
+pub judged_counted : (result : Result Text Answer) (before now : ℕ) → now ≡ before → ((faults : ℕ) → IfErr result (λ answer. Caused answer faults faults 0 0 0 0)) →
+    MatchResult result (λ text. now ≡ before) (λ answer. Caused answer before now 0 0 0 0)
+judged_counted (Ok text) before now same caused = same
+judged_counted (Err answer) before now same caused = subst (λ (n : ℕ). Caused answer before n 0 0 0 0) (sym same) (caused before)

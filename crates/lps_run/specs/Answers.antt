@@ -1,8 +1,10 @@
 -- The answers of the top call.
 use Rattle.std.specs.Prelude.{◌≡◌, ◌⊎◌, ℕ, List, [], ◌++◌, Option, Some, None, Result, Ok, Err}
+use Rattle.lps_terms.specs.declared.refused.Refused.{Refused}
 use Rattle.lps_terms.specs.declared.text.Text.{Text}
 use Rattle.lps_terms.specs.declared.text_refused.TextRefused.{TextRefused as Reason}
 use Rattle.lps_terms.specs.declared.text_refused.TextRefused.TheVariants as reason
+use Rattle.lps_model.specs.Acceptance.{IsAccepted, IsRefusedFor}
 use Rattle.lps_refusal.specs.Texts.{IsRefusal}
 use Rattle.lps_printer.specs.Statements.{canonical}
 use Rattle.lps_reader.specs.Texts.{IsTextOf}
@@ -39,15 +41,23 @@ answer_to (Err stops.StreamLimit) = StreamLimit
 answer_to (Err stops.EventFault) = EventFault
 answer_to (Err stops.PrintFault) = PrintFault
 
--- the bytes are this text, and it is run
-abbrev pub IsRunText : List ℕ → Text → Type 0
-IsRunText all text = IsTextOf all text × (not_built text ≡ None)
+-- the bytes are this text, and it is accepted
+abbrev pub IsAcceptedText : List ℕ → Text → Type 0
+IsAcceptedText all text = IsTextOf all text × IsAccepted text
 
--- why the bytes are no text that is run: they are refused, or a statement of theirs is not run
+-- the bytes are a text that is refused for this
+abbrev pub IsRefusedText : List ℕ → Refused → Type 0
+IsRefusedText all refused = (text : Text) × IsTextOf all text × IsRefusedFor text refused
+
+-- the bytes are this text, which is accepted, and it is run
+abbrev pub IsRunText : List ℕ → Text → Type 0
+IsRunText all text = IsAcceptedText all text × (not_built text ≡ None)
+
+-- why the bytes are no text that is run: they are no text, or one that is not accepted, or a statement of it is not run
 abbrev pub IsRefusedRun : List ℕ → Reason → Type 0
 IsRefusedRun all (reason.Read refusal) = IsRefusal all refusal
-IsRefusedRun all (reason.NotBuilt line) = (text : Text) × IsTextOf all text × (not_built text ≡ Some line)
-IsRefusedRun all (reason.NotAccepted refused) = ⊥
+IsRefusedRun all (reason.NotAccepted refused) = IsRefusedText all refused
+IsRefusedRun all (reason.NotBuilt line) = (text : Text) × IsAcceptedText all text × (not_built text ≡ Some line)
 
 -- What each answer of a run says of the bytes of a text, of the bytes of a stream, of what was printed since `start`, and of
 -- what is left of the stream.
@@ -66,12 +76,13 @@ Answered all stream start printed source NoMemory = (printed ≡ Some start) ⊎
 
 -- a front of the canonical text was printed since `start`
 abbrev pub PrintsTextFront : List ℕ → List ℕ → Option (List ℕ) → Type 0
-PrintsTextFront all start printed = (text : Text) × IsTextOf all text × (front : List ℕ) × IsFront front (canonical text) × (printed ≡ Some (start ++ front))
+PrintsTextFront all start printed = (text : Text) × IsAcceptedText all text × (front : List ℕ) × IsFront front (canonical text) × (printed ≡ Some (start ++ front))
 
 -- what each answer of a check says of the bytes of a text and of what was printed since `start`
 abbrev pub AnsweredCheck : List ℕ → List ℕ → Option (List ℕ) → Answer → Type 0
-AnsweredCheck all start printed Checked = (text : Text) × IsTextOf all text × (printed ≡ Some (start ++ canonical text))
+AnsweredCheck all start printed Checked = (text : Text) × IsAcceptedText all text × (printed ≡ Some (start ++ canonical text))
 AnsweredCheck all start printed (TextRefused (reason.Read refusal)) = IsRefusal all refusal × (printed ≡ Some start)
+AnsweredCheck all start printed (TextRefused (reason.NotAccepted refused)) = IsRefusedText all refused × (printed ≡ Some start)
 AnsweredCheck all start printed TextFault = printed ≡ Some start
 AnsweredCheck all start printed PrintFault = PrintsTextFront all start printed
 AnsweredCheck all start printed NoMemory = printed ≡ Some start
@@ -95,7 +106,7 @@ Caused CycleLimit texts texts' reads reads' prints prints' = NoneRose texts text
 Caused StreamLimit texts texts' reads reads' prints prints' = NoneRose texts texts' reads reads' prints prints'
 Caused NoMemory texts texts' reads reads' prints prints' = NoneRose texts texts' reads reads' prints prints'
 
--- the answers for a text that was not read
+-- the answers for a text that was not read, or not accepted
 abbrev pub EndsBeforeRun : Answer → Type 0
 EndsBeforeRun (TextRefused reason) = Unit {0}
 EndsBeforeRun TextFault = Unit {0}
@@ -109,9 +120,10 @@ EndsBeforeRun StreamLimit = ⊥
 EndsBeforeRun EventFault = ⊥
 EndsBeforeRun PrintFault = ⊥
 
--- why a text was not read
+-- why a text was not read, or not accepted
 abbrev pub RefusedAs : List ℕ → Answer → Type 0
 RefusedAs all (TextRefused (reason.Read refusal)) = IsRefusal all refusal
+RefusedAs all (TextRefused (reason.NotAccepted refused)) = IsRefusedText all refused
 RefusedAs all TextFault = Unit {0}
 RefusedAs all NoMemory = Unit {0}
 RefusedAs all other = ⊥

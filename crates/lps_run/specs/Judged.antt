@@ -7,8 +7,8 @@ use Rattle.lps_terms.specs.declared.batch_kind.BatchKind.{BatchKind}
 use Rattle.lps_terms.specs.declared.batch_kind.BatchKind.TheVariants.{Undeclared, WrongArity, NotExternal, Gap}
 use Rattle.lps_terms.specs.declared.text.Text.{Text}
 use Rattle.lps_model.specs.declared.batch.Batch.{Batch}
-use Rattle.lps_model.specs.declared.signature.Signature.{Signature}
-use Rattle.lps_model.specs.Program.{signature_of}
+use Rattle.lps_model.specs.Declarations.{arity_among, kind_among}
+use Rattle.lps_model.specs.Program.{declarations}
 use Rattle.lps_batches.specs.declared.batch_bad.BatchBad.{BatchBad}
 use Rattle.lps_batches.specs.Lines.{IsBadLine, IsBatchLine, IsPassed}
 
@@ -19,13 +19,14 @@ abbrev pub fault_of_kind : Kind → Option BatchKind
 fault_of_kind k.Event = None
 fault_of_kind other = Some NotExternal
 
--- the fault of an event with so many arguments
-abbrev pub fault_by : Option Signature → ℕ → Option BatchKind
-fault_by None count = Some Undeclared
-fault_by (Some signature) count = if signature.arity == count then fault_of_kind signature.kind else Some WrongArity
+-- the fault of an event with so many arguments whose name is declared with this kind and this number of arguments
+abbrev pub fault_by : Option Kind → Option ℕ → ℕ → Option BatchKind
+fault_by None arity count = Some Undeclared
+fault_by (Some kind) None count = Some Undeclared
+fault_by (Some kind) (Some arity) count = if arity == count then fault_of_kind kind else Some WrongArity
 
 abbrev pub event_fault : Text → Atom → Option BatchKind
-event_fault text event = fault_by (signature_of text event.name) (length event.args)
+event_fault text event = fault_by (kind_among (declarations text) event.name) (arity_among (declarations text) event.name) (length event.args)
 
 -- the first fault that is there
 abbrev pub or_else : Option BatchKind → Option BatchKind → Option BatchKind

@@ -2,20 +2,23 @@
 ghost use Rattle.std.specs.Prelude.{◌≡◌};
 ghost use Rattle.lps_run.specs.Judged.{batch_fault as batch_fault_of, event_fault as event_fault_of, events_fault as events_fault_of, fault_by as fault_by_of, number_fault as number_fault_of};
 
-use lps_model::{Accepted, Batch, Signature};
+use lps_model::{Accepted, Batch};
 use lps_terms::{Atom, BatchKind, Kind};
 
-/// The fault of an event with so many arguments whose name has this signature.
-fn fault_by(signature: Option<Signature>, count: usize) -> Option<BatchKind>
-    ensures { result ≡ fault_by_of signature count }
+/// The fault of an event with so many arguments whose name is declared with this kind and this number of arguments.
+fn fault_by(kind: Option<Kind>, arity: Option<u32>, count: usize) -> Option<BatchKind>
+    ensures { result ≡ fault_by_of kind arity count }
 {
-    let Some(signature) = signature else {
+    let Some(kind) = kind else {
         return Some(BatchKind::Undeclared);
     };
-    if signature.arity as usize != count {
+    let Some(arity) = arity else {
+        return Some(BatchKind::Undeclared);
+    };
+    if arity as usize != count {
         return Some(BatchKind::WrongArity);
     }
-    match signature.kind {
+    match kind {
         Kind::Event => None,
         _ => Some(BatchKind::NotExternal),
     }
@@ -24,7 +27,9 @@ fn fault_by(signature: Option<Signature>, count: usize) -> Option<BatchKind>
 fn event_fault(text: &Accepted, event: &Atom) -> Option<BatchKind>
     ensures { result ≡ event_fault_of text.now event.now }
 {
-    fault_by(text.signature(&event.name), event.args.len())
+    let kind = text.kind(&event.name);
+    let arity = text.arity(&event.name);
+    fault_by(kind, arity, event.args.len())
 }
 
 /// The fault of the first event that has one.

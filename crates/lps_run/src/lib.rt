@@ -1,7 +1,7 @@
 //! The top call: runs a text over a stream of batches and prints the report.
 //!
-//! It stands on the readers of texts and of streams, the definitions and the three traits of the outside, and never knows what
-//! a file, a terminal or a pipe is. Until crates of their own come, which texts are run (`built`), which batches may come
+//! It stands on the readers of texts and of streams, the judge of texts, the definitions and the three traits of the outside,
+//! and never knows what a file, a terminal or a pipe is. Until crates of their own come, which texts are run (`built`), which batches may come
 //! (`batch`), the causal update (`causal`), the run from cycle to cycle (`engine`) and the bytes of the report (`report`) stand
 //! here as private modules. It carries the headline: the clauses `told` and `checked` of `lps` say for each answer what was
 //! printed, in the words of the definitions, and clauses `usage`, `unread`, `limit`, `silent` and `caused` say when each

@@ -6,19 +6,19 @@ use std::test::Fail;
 
 /// A call of `lps run t`: the text and the stream, how the stream is cut, which calls fail, and what is expected.
 #[derive(Clone, Copy)]
-struct Row {
-    text: &'static str,
+struct Row<'a> {
+    text: &'a str,
     stream: &'static str,
     piece: usize,
     text_fails: &'static [u64],
     read_fails: &'static [u64],
     print_fails: &'static [u64],
     code: u8,
-    line: &'static str,
+    line: &'a str,
     printed: &'static str,
 }
 
-const PLAIN: Row = Row {
+const PLAIN: Row<'static> = Row {
     text: "",
     stream: "",
     piece: 16384,
@@ -34,20 +34,24 @@ const SWITCH: &str =
     "fluent p/0.\nevent e/0.\nevent g/0.\ne initiates p.\ne terminates p.\ng terminates p.\n";
 
 /// One text under the name `t`.
-fn text_of(alloc: Global, row: &Row) -> Result<MemTexts, AllocError> {
+fn text_of(alloc: Global, row: &Row<'_>) -> Result<MemTexts, AllocError> {
     let bytes = Vec::from_slice(alloc, row.text.as_bytes())?;
     let texts = vec![in alloc; (String::from_str(alloc, "t")?, bytes)]?;
     Ok(MemTexts::new(texts, Vec::from_slice(alloc, row.text_fails)?))
 }
 
-fn stream_of(alloc: Global, row: &Row) -> Result<MemSource, AllocError> {
+fn stream_of(alloc: Global, row: &Row<'_>) -> Result<MemSource, AllocError> {
     let bytes = Vec::from_slice(alloc, row.stream.as_bytes())?;
     let fails = Vec::from_slice(alloc, row.read_fails)?;
     Ok(MemSource::new(bytes, row.piece, fails))
 }
 
 /// The answer to these words, and what is printed.
-fn answer_to(alloc: Global, words: &[&str], row: &Row) -> Result<(Answer, MemDesk), AllocError> {
+fn answer_to(
+    alloc: Global,
+    words: &[&str],
+    row: &Row<'_>,
+) -> Result<(Answer, MemDesk), AllocError> {
     let mut list = Vec::new(alloc);
     for word in words {
         list.push(String::from_str(alloc, word)?)?;
@@ -59,7 +63,7 @@ fn answer_to(alloc: Global, words: &[&str], row: &Row) -> Result<(Answer, MemDes
     Ok((answer, desk))
 }
 
-fn check_row(rt: &impl Abort, alloc: Global, row: &Row) -> Result<(), Fail> {
+fn check_row(rt: &impl Abort, alloc: Global, row: &Row<'_>) -> Result<(), Fail> {
     let (answer, desk) = answer_to(alloc, &["run", "t"], row)?;
     assert_eq!(rt; desk.printed(), row.printed.as_bytes());
     assert_eq!(rt; answer.code(), row.code);
@@ -68,7 +72,7 @@ fn check_row(rt: &impl Abort, alloc: Global, row: &Row) -> Result<(), Fail> {
     Ok(())
 }
 
-fn check_rows(rt: &impl Abort, alloc: Global, rows: &[Row]) -> Result<(), Fail> {
+fn check_rows(rt: &impl Abort, alloc: Global, rows: &[Row<'_>]) -> Result<(), Fail> {
     for row in rows {
         check_row(rt, alloc, row)?;
     }
@@ -135,10 +139,19 @@ fn refused_lines(rt: HostRuntime) -> Result<(), Fail> {
 #[test]
 fn refused_texts(rt: HostRuntime) -> Result<(), Fail> {
     for (text, line) in [
-        ("fluent q/0.\nderived q.\n", "text line 2: not built"),
-        ("fluent q/0.\nfluent q/0.\n", "text line 2: not built"),
-        ("event e/0.\n\ninitially e.\n", "text line 3: not built"),
-        ("fluent q/1.\n", "text line 1: not built"),
+        ("derived d.\nd.\n", "text line 2: not built"),
+        (
+            "fluent q/1. event e/1.\ne(X) initiates q(X).\n",
+            "text line 2: not built",
+        ),
+        (
+            "fluent q/0. event e/0.\ne initiates q if q.\n",
+            "text line 2: not built",
+        ),
+        (
+            "derived d.\nd.\ninitially e.\n",
+            "text line 3: undeclared e",
+        ),
         ("fluent p/0", "text line 1: bad syntax"),
         ("initially q.\np ! q.\n", "text line 2: bad byte"),
         (
@@ -156,6 +169,84 @@ fn refused_texts(rt: HostRuntime) -> Result<(), Fail> {
         check_row(&rt, rt.alloc(), &row)?;
     }
     Ok(())
+}
+
+/// What each name below is declared as.
+const DECLARED: &str = "fluent p/0, q/1. event e/0. action a/0. derived d, g(-). macro m.\n";
+
+/// Statements below `DECLARED` in the order of the reasons for which they are refused.
+const NOT_ACCEPTED: [(&str, &str); 11] = [
+    ("initially x.\n", "undeclared x"),
+    ("fluent y/0, y/1.\n", "declared twice y"),
+    ("initially p(a).\n", "wrong arity p"),
+    ("initially e.\n", "wrong kind e"),
+    ("initially q(X).\n", "not ground"),
+    ("false p at T.\n", "no event"),
+    ("if e from T1 to T2 then p at T1.\n", "out of order"),
+    (
+        "if p at T then e from T1 to T2, a from T1 to T2.\n",
+        "mixed group",
+    ),
+    ("m from T1 to T3 if a from T1 to T2.\n", "bad head times"),
+    ("g(X) if p.\n", "unknown X"),
+    ("d if not d.\n", "unlevelled d"),
+];
+
+/// The refusal of these statements below `DECLARED`, for a reason that stands in a line or in none.
+fn check_refusal(
+    rt: &impl Abort,
+    alloc: Global,
+    statements: &[&str],
+    line: u32,
+    reason: &str,
+) -> Result<(), Fail> {
+    let mut text = String::from_str(alloc, DECLARED)?;
+    for statement in statements {
+        text.push_str(statement)?;
+    }
+    let in_line = format!(in alloc; "text line {line}: {reason}")?;
+    let row = Row {
+        text: text.as_str(),
+        code: 3,
+        line: if reason == "unlevelled d" {
+            reason
+        } else {
+            in_line.as_str()
+        },
+        printed: "",
+        ..PLAIN
+    };
+    check_row(rt, alloc, &row)
+}
+
+#[test]
+fn texts_not_accepted(rt: HostRuntime) -> Result<(), Fail> {
+    for (statement, reason) in NOT_ACCEPTED {
+        check_refusal(&rt, rt.alloc(), &[statement], 2, reason)?;
+    }
+    Ok(())
+}
+
+/// Of two reasons the least counts, also where it stands in a later line.
+#[test]
+fn texts_not_accepted_for_two_reasons(rt: HostRuntime) -> Result<(), Fail> {
+    for (least, later) in NOT_ACCEPTED.iter().zip(&NOT_ACCEPTED[1..]) {
+        check_refusal(&rt, rt.alloc(), &[later.0, least.0], 3, least.1)?;
+    }
+    Ok(())
+}
+
+#[test]
+fn arguments(rt: HostRuntime) -> Result<(), Fail> {
+    let row = Row {
+        text: "fluent stock/2. event sell/1. initially stock(pen, 5).\n\
+            sell(pen) initiates stock(pen, 4). sell(pen) terminates stock(pen, 5).\n",
+        stream: "1: sell(cap).\n2: sell(pen).\n",
+        printed: "cycle 0\nstate stock(pen, 5)\ncycle 1\nadmit sell(cap)\nstate stock(pen, 5)\n\
+            cycle 2\nadmit sell(pen)\nstate stock(pen, 4)\ndone\n",
+        ..PLAIN
+    };
+    check_row(&rt, rt.alloc(), &row)
 }
 
 #[test]
@@ -181,7 +272,7 @@ fn streams(rt: HostRuntime) -> Result<(), Fail> {
 }
 
 /// Checks the answer to `check t`, which leaves the stream alone.
-fn check_check(rt: &impl Abort, alloc: Global, row: &Row) -> Result<(), Fail> {
+fn check_check(rt: &impl Abort, alloc: Global, row: &Row<'_>) -> Result<(), Fail> {
     let (answer, desk) = answer_to(alloc, &["check", "t"], row)?;
     assert_eq!(rt; desk.printed(), row.printed.as_bytes());
     assert_eq!(rt; answer.code(), row.code);
@@ -215,7 +306,13 @@ fn checks(rt: HostRuntime) -> Result<(), Fail> {
         printed: "",
         ..row
     };
-    check_check(&rt, rt.alloc(), &refused)
+    check_check(&rt, rt.alloc(), &refused)?;
+    let not_accepted = Row {
+        text: "fluent p/0.\ninitially q.",
+        line: "text line 2: undeclared q",
+        ..refused
+    };
+    check_check(&rt, rt.alloc(), &not_accepted)
 }
 
 #[test]
@@ -238,7 +335,7 @@ const HALVES: [&str; 4] = [
     "cycle 0\nstate\ncycle 1\nadmit e\nstate p\ncycle 2\nstate p\ndo",
 ];
 
-const FAULTY: Row = Row {
+const FAULTY: Row<'static> = Row {
     text: SWITCH,
     stream: "1: e.\n2: .\n",
     piece: 6,

@@ -1,8 +1,9 @@
-ghost use Rattle.std.specs.Prelude.{◌≡◌, ◌↔◌, ◌<◌, ◌+◌, ◌^◌, ℕ, List, Some, None, length, MatchResult, IfErr};
+ghost use Rattle.std.specs.Prelude.{◌≡◌, ◌↔◌, ◌<◌, ◌+◌, ◌^◌, ℕ, IsTrue, List, Some, None, length, MatchResult, IfErr, IfOk};
+ghost use Rattle.lps_model.specs.Formed.{is_formed};
 ghost use Rattle.lps_outside.specs.Bytes.{Stream};
-ghost use Rattle.lps_reader.specs.Texts.{IsTextOf};
+ghost use Rattle.lps_reader.specs.Texts.{IsReadOf};
 ghost use Rattle.lps_run.specs.declared.words.Command.TheVariants as asked;
-ghost use Rattle.lps_run.specs.Answers.{Answered, AnsweredCheck, Caused, EndsBeforeRun, IsNoUsage, IsSilent, RefusedAs};
+ghost use Rattle.lps_run.specs.Answers.{Answered, AnsweredCheck, Caused, EndsBeforeRun, IsAcceptedText, IsNoUsage, IsSilent, RefusedAs};
 ghost use Rattle.lps_run.specs.Words.{command_of as command_of_words, words_of};
 
 use crate::answer::{Answer, UsageKind, answer_of};
@@ -10,28 +11,52 @@ use crate::built::not_built;
 use crate::loading::{LoadError, load};
 use crate::stream::run;
 use crate::words::{Command, command_of};
+use lps_accept::{AcceptError, accept};
+use lps_formed::read_texts_are_formed;
 use lps_model::Accepted;
 use lps_outside::{Desk, Source, Texts};
 use lps_reader::{ReadError, print_text, read_text};
 use lps_terms::{ReadRefused, Text, TextRefused};
 use std::alloc::Global;
 
-/// Reads the text of a name.
-fn text_of<T: Texts>(alloc: Global, texts: &mut T, name: &str) -> Result<Text, Answer>
+/// Reads bytes as a text, which is then well-formed.
+fn formed_text(alloc: Global, bytes: &[u8]) -> Result<Text, ReadError>
+    ensures read { IsReadOf bytes.now result }
+    ensures formed { IfOk result (λ text. IsTrue (is_formed text)) }
+{
+    read_texts_are_formed();
+    read_text(alloc, bytes)
+}
+
+/// Reads bytes as a text, and judges whether it is accepted.
+fn accepted_text(alloc: Global, bytes: &[u8]) -> Result<Accepted, Answer>
+    ensures told { MatchResult result (IsAcceptedText bytes.now) (RefusedAs bytes.now) }
+    ensures kind { IfErr result EndsBeforeRun }
+    ensures caused { (faults : ℕ) → IfErr result (λ answer. Caused answer faults faults 0 0 0 0) }
+{
+    match formed_text(alloc, bytes) {
+        Ok(text) => match accept(alloc, text) {
+            Ok(accepted) => Ok(accepted),
+            Err(AcceptError::NoMemory) => Err(Answer::NoMemory),
+            Err(AcceptError::Refused(refused)) => Err(Answer::TextRefused(TextRefused::NotAccepted(
+                refused,
+            ))),
+        },
+        Err(ReadError::NoMemory) => Err(Answer::NoMemory),
+        Err(ReadError::Refused(refusal)) => Err(Answer::TextRefused(TextRefused::Read(refusal))),
+    }
+}
+
+/// Reads the text of a name, and judges whether it is accepted.
+fn text_of<T: Texts>(alloc: Global, texts: &mut T, name: &str) -> Result<Accepted, Answer>
     ensures told { (all : List ℕ) → T.text texts.old name.now ≡ Some all →
-        MatchResult result (λ text. IsTextOf all text) (λ answer. RefusedAs all answer) }
+        MatchResult result (IsAcceptedText all) (RefusedAs all) }
     ensures kind { IfErr result EndsBeforeRun }
     ensures counted { MatchResult result (λ _. T.faults texts.new ≡ T.faults texts.old)
         (λ answer. Caused answer (T.faults texts.old) (T.faults texts.new) 0 0 0 0) }
 {
     match load(alloc, texts, name) {
-        Ok(bytes) => match read_text(alloc, bytes.as_slice()) {
-            Ok(text) => Ok(text),
-            Err(ReadError::NoMemory) => Err(Answer::NoMemory),
-            Err(ReadError::Refused(refusal)) => Err(Answer::TextRefused(TextRefused::Read(
-                refusal,
-            ))),
-        },
+        Ok(bytes) => accepted_text(alloc, bytes.as_slice()),
         Err(LoadError::NoMemory) => Err(Answer::NoMemory),
         Err(LoadError::TooLong) => {
             let reason = TextRefused::Read(ReadRefused::TextTooLong);
@@ -41,36 +66,37 @@ fn text_of<T: Texts>(alloc: Global, texts: &mut T, name: &str) -> Result<Text, A
     }
 }
 
-/// Runs a text that was read, if it is one that is run.
-fn run_text<E: Source, D: Desk>(alloc: Global, text: Text, events: &mut E, desk: &mut D) -> Answer
+/// Runs an accepted text, if it is one that is run.
+fn run_text<E: Source, D: Desk>(
+    alloc: Global,
+    text: Accepted,
+    events: &mut E,
+    desk: &mut D,
+) -> Answer
     ensures kind { IsNoUsage result }
     ensures silent { IsSilent result → D.printed desk.new ≡ D.printed desk.old }
     ensures limit { (before after : Stream) → E.stream events.old ≡ Some before → E.stream events.new ≡ Some after →
         (result ≡ Answer.StreamLimit) ↔ (2 ^ 36 + length after.left < length before.left) }
-    ensures told { (all : List ℕ) (before : Stream) (start : List ℕ) → IsTextOf all text →
+    ensures told { (all : List ℕ) (before : Stream) (start : List ℕ) → IsAcceptedText all text →
         E.stream events.old ≡ Some before → D.printed desk.old ≡ Some start →
         Answered all before.left start (D.printed desk.new) (E.stream events.new) result }
     ensures caused { (faults : ℕ) → Caused result faults faults (E.faults events.old) (E.faults events.new) (D.print_faults desk.old) (D.print_faults desk.new) }
 {
-    let Ok(text) = Accepted::new(alloc, text) else {
-        return Answer::NoMemory;
-    };
-    match not_built(alloc, &text) {
-        Err(_) => Answer::NoMemory,
-        Ok(Some(line)) => Answer::TextRefused(TextRefused::NotBuilt { line }),
-        Ok(None) => answer_of(run(alloc, text, events, desk)),
+    match not_built(&text) {
+        Some(line) => Answer::TextRefused(TextRefused::NotBuilt { line }),
+        None => answer_of(run(alloc, text, events, desk)),
     }
 }
 
-/// Prints the canonical text of a text that was read.
-fn check_text<D: Desk>(alloc: Global, text: &Text, desk: &mut D) -> Answer
+/// Prints the canonical text of an accepted text.
+fn check_text<D: Desk>(alloc: Global, text: &Accepted, desk: &mut D) -> Answer
     ensures kind { IsNoUsage result }
     ensures silent { IsSilent result → D.printed desk.new ≡ D.printed desk.old }
-    ensures told { (all start : List ℕ) → IsTextOf all text.now → D.printed desk.old ≡ Some start → AnsweredCheck all start (D.printed desk.new) result }
+    ensures told { (all start : List ℕ) → IsAcceptedText all text.now → D.printed desk.old ≡ Some start → AnsweredCheck all start (D.printed desk.new) result }
     ensures caused { (faults reads : ℕ) → Caused result faults faults reads reads (D.print_faults desk.old) (D.print_faults desk.new) }
     ensures limit { result ≡ Answer.StreamLimit → ⊥ }
 {
-    let Ok(bytes) = print_text(alloc, text) else {
+    let Ok(bytes) = print_text(alloc, text.text()) else {
         return Answer::NoMemory;
     };
     match desk.print(bytes.as_slice()) {
@@ -113,8 +139,8 @@ fn answer_command<T: Texts, E: Source, D: Desk>(
 /// and prints the report of the run: the block of cycle 0, a block for each batch as soon as its line has ended, and the last
 /// line. `check TEXT` prints the canonical text of the text.
 ///
-/// `Usage` comes where the words are no command; `TextRefused` where the text is too long, is no text, or, for `run`, has a
-/// statement that is not run yet; `BatchRefused` at the first line of the stream that is not the batch of its cycle;
+/// `Usage` comes where the words are no command; `TextRefused` where the text is too long, is no text, is not accepted, or,
+/// for `run`, has a statement that is not run yet; `BatchRefused` at the first line of the stream that is not the batch of its cycle;
 /// `CycleLimit` at a batch after 1,000,000 cycles; `StreamLimit` where more than 68,719,476,736 bytes were taken from the
 /// stream. A fault is that of the object which failed. What was printed before an answer stays; nothing is printed before the
 /// text is read.

@@ -9,6 +9,6 @@ use Rattle.lps_run.proofs.engine.Engine.start.Goals as goal
 
 pub returns-clause-stands : goal.returns-clause-stands
 returns-clause-stands c =
-    let same = c.as_slice.ensures ∙ ap (λ (t : Text). t.statements) c.text-2.ensures in
+    let same = c.as_slice.ensures ∙ ap (λ (t : Text). t.statements) c.text-2.ensures.same in
     begins c.args.text c.in_ok-facts.facts.keys c.in_ok-facts.ensures.sorted
     (λ q. c.in_ok-facts.ensures.members q ∙ ap (λ (ss : List Statement). is_among (flat_map (λ (s : Statement). initial_in s.body) ss) q) same)
