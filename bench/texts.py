@@ -1,5 +1,5 @@
 #!/usr/bin/env python3
-"""Measures how long the built program takes to read and print texts of several shapes and sizes, and its peak memory.
+"""Measures how long the built program takes to read, judge and print texts of several shapes and sizes, and its peak memory.
 
 Usage: bench/texts.py [PROGRAM]    the program as built, by default that of crates/lps_prog
 
@@ -17,14 +17,21 @@ from measure import best
 SIZES = (65_536, 262_144, 1_048_576)
 
 
+def filled(head, statement, size):
+    """A text of this size at most: a head, and a statement as often as it fits."""
+    return head + statement * ((size - len(head)) // len(statement))
+
+
 def one_statement(size):
     """One statement of many initial facts."""
-    return "initially p(a)" + ", p(a)" * ((size - 16) // 6) + ".\n"
+    head = "fluent p/1.\ninitially p(a)"
+    return filled(head, ", p(a)", size - 2) + ".\n"
 
 
 def statements(size):
     """Many short statements, at the greatest size a hundred thousand of them."""
-    return "".join(f"q{i % 1000:03}(a).\n" for i in range(size // 10))
+    head = "derived " + ", ".join(f"q{i:03}(-)" for i in range(1000)) + ".\n"
+    return head + "".join(f"q{i % 1000:03}(a).\n" for i in range((size - len(head)) // 10))
 
 
 def comment(size):
@@ -34,14 +41,14 @@ def comment(size):
 
 def parentheses(size):
     """Statements with an expression in a thousand parentheses."""
-    statement = "q if " + "(" * 1000 + "1" + ")" * 1000 + " < 3.\n"
-    return statement * (size // len(statement))
+    return filled("derived q.\n", "q if " + "(" * 1000 + "1" + ")" * 1000 + " < 3.\n", size)
 
 
 def long_names(size):
     """Statements of one name and variables of 64 bytes each."""
-    statement = f"{'n' * 64}({', '.join('V' + str(i).zfill(63) for i in range(8))}).\n"
-    return statement * (size // len(statement))
+    name = "n" * 64
+    head = f"derived {name}({', '.join('+' * 8)}).\n"
+    return filled(head, f"{name}({', '.join('V' + str(i).zfill(63) for i in range(8))}).\n", size)
 
 
 def main():
