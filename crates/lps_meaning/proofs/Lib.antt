@@ -1,0 +1,28 @@
+pub mod Persistence
+pub mod Walks
+pub mod Splits
+pub mod Statuses
+pub mod Prefixes
+pub mod RuleLaws
+pub mod Numbers
+pub mod Uniqueness
+pub mod ReportLaws
+pub mod ShapeLaws
+mod ExampleWalks
+mod Deadline
+mod OneGoal
+mod Waiting
+mod BegunAnew
+mod Depth
+pub mod Occurrences
+pub mod ShapeTerms
+pub mod OwnShapes
+pub mod Canonical
+pub mod Moves
+pub mod Sizes
+pub mod ConditionLaws
+pub mod NodeLaws
+pub mod Unifiers
+pub mod Existence
+pub mod Reaching
+mod NodeExample

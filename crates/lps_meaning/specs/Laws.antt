@@ -1,0 +1,194 @@
+-- The laws of the definitions, each a statement over texts, traces and keys.
+use Rattle.std.specs.Prelude.{◌≡◌, ◌⊎◌, ◌↔◌, ◌≤◌, ◌++◌, ℕ, suc, List, length, Option, Some, Contains, true, None, ◌∷◌, map}
+use Rattle.lps_terms.specs.declared.atom.Atom.{Atom}
+use Rattle.lps_terms.specs.declared.prefer.Prefer.{Prefer}
+use Rattle.lps_terms.specs.declared.term.Term.{Term}
+use Rattle.lps_terms.specs.declared.text.Text.{Text}
+use Rattle.lps_model.specs.declared.cycle.Cycle.{Cycle}
+use Rattle.lps_model.specs.declared.trace.Trace.{Trace}
+use Rattle.lps_derivation.specs.Clauses.{clauses}
+use Rattle.lps_derivation.specs.Levels.{AreLevels}
+use Rattle.lps_meaning.specs.declared.goal.Closed.{Closed}
+use Rattle.lps_meaning.specs.declared.goal.Closed.TheVariants as c
+use Rattle.lps_meaning.specs.declared.goal.Counts.{Counts}
+use Rattle.lps_meaning.specs.declared.goal.GoalKey.{GoalKey}
+use Rattle.lps_meaning.specs.Holds.{Persists, Holds, Initiated, Terminated, Ends, IsTrueAt}
+use Rattle.lps_meaning.specs.declared.node.Node.{Node}
+use Rattle.lps_meaning.specs.declared.when.When.{When}
+use Rattle.lps_meaning.specs.Conditions.{CanComeTrue, ShowGroups}
+use Rattle.lps_meaning.specs.Cycles.{AreGoals, IsRun}
+use Rattle.lps_meaning.specs.Goals.{IsClosed, HasStatus, IsMet, IsMetWithin, IsRuleTrue, AreGround, CanGoOn}
+use Rattle.lps_meaning.specs.Nodes.{IsResidual}
+use Rattle.lps_meaning.specs.Plain.{IsPlainRun}
+use Rattle.lps_meaning.specs.Reports.{Block, IsBlockOf, IsBlock, IsReport, AreCounts}
+use Rattle.lps_meaning.specs.Rules.{AreFramed, numbered}
+use Rattle.lps_meaning.specs.Sequences.{Entry, is_step, Place, Values, Times, Walk, start}
+use Rattle.lps_meaning.specs.Shapes.{Sequence, Shape, IsGeneral, put_shape}
+use Rattle.lps_meaning.specs.Steps.{Chain}
+
+-- ---- states
+
+-- a fluent holds in a state exactly where it persists there, over what holds in the states before
+abbrev pub HoldsIsPersistence : Type 0
+HoldsIsPersistence = (text : Text) (level : List ℕ → ℕ) (trace : Trace) (i : ℕ) (fluent : Atom) →
+    Holds text level trace i fluent ↔ Persists text level trace (Holds text level trace) i fluent
+
+-- in state 0 the initial facts hold
+abbrev pub StartLaw : Type 0
+StartLaw = (text : Text) (level : List ℕ → ℕ) (trace : Trace) (fluent : Atom) → Holds text level trace 0 fluent ↔ Contains trace.initial fluent
+
+-- in state i+1 a fluent holds that is initiated then, or that holds in state i and does not end
+abbrev pub UpdateLaw : Type 0
+UpdateLaw = (text : Text) (level : List ℕ → ℕ) (trace : Trace) (i : ℕ) (fluent : Atom) →
+    Holds text level trace (suc i) fluent
+    ↔ (Initiated text level trace (suc i) fluent ⊎ (Holds text level trace i fluent × (Ends text level trace (suc i) fluent → ⊥)))
+
+-- Where it is decided whether the fluent is initiated, state i+1 is state i without the terminated fluents, together with the
+-- initiated ones.
+abbrev pub DecidedUpdateLaw : Type 0
+DecidedUpdateLaw = (text : Text) (level : List ℕ → ℕ) (trace : Trace) (i : ℕ) (fluent : Atom) →
+    Initiated text level trace (suc i) fluent ⊎ (Initiated text level trace (suc i) fluent → ⊥) →
+    Holds text level trace (suc i) fluent
+    ↔ ((Holds text level trace i fluent × (Terminated text level trace (suc i) fluent → ⊥)) ⊎ Initiated text level trace (suc i) fluent)
+
+-- what is true in a state does not depend on which levels are taken
+abbrev pub LevelsDoNotMatter : Type 0
+LevelsDoNotMatter = (text : Text) (level other : List ℕ → ℕ) → AreLevels (clauses text) level → AreLevels (clauses text) other →
+    (trace : Trace) (i : ℕ) (a : Atom) → IsTrueAt text level trace i a ↔ IsTrueAt text other trace i a
+
+-- ---- statuses
+
+-- the longer trace goes on from the other, whether by legal cycles or not
+pub record IsContinuation (trace longer : Trace) : Type 0 where
+  pub initial : longer.initial ≡ trace.initial
+  pub more : List Cycle
+  pub cycles : longer.cycles ≡ trace.cycles ++ more
+
+-- What is known of a goal at a time of a trace is known in every continuation of the trace and at every later time.
+abbrev pub InEachContinuation : (Trace → GoalKey → ℕ → Type 0) → (Trace → GoalKey → ℕ → Type 0) → Type 0
+InEachContinuation Now Later = (trace longer : Trace) → IsContinuation trace longer → (key : GoalKey) (now later : ℕ) →
+    key.time ≤ now → now ≤ length trace.cycles → now ≤ later → Now trace key now → Later longer key later
+
+-- a goal that is closed stays closed so
+abbrev pub StatusStays : Type 0
+StatusStays = (text : Text) (level : List ℕ → ℕ) (depth : ℕ) → AreFramed text → (how : Closed) → InEachContinuation
+    (λ trace key now. IsClosed text level trace depth key now how) (λ longer key later. IsClosed text level longer depth key later how)
+
+-- after Failed no alternative becomes true, at any nesting
+abbrev pub FailedIsForever : Type 0
+FailedIsForever = (text : Text) (level : List ℕ → ℕ) (depth : ℕ) → AreFramed text → InEachContinuation
+    (λ trace key now. IsClosed text level trace depth key now c.Failed) (λ longer key later. IsMet text level longer key later → ⊥)
+
+-- after Cut none does by an instance that nests at most the depth
+abbrev pub CutIsForever : Type 0
+CutIsForever = (text : Text) (level : List ℕ → ℕ) (depth : ℕ) → AreFramed text → InEachContinuation
+    (λ trace key now. IsClosed text level trace depth key now c.Cut) (λ longer key later. IsMetWithin text level longer depth key later → ⊥)
+
+-- where no goal is pending, failed or cut, every rule is true
+abbrev pub RulesAreTrue : Type 0
+RulesAreTrue = (text : Text) (level : List ℕ → ℕ) (depth : ℕ) (trace : Trace) (counts : Counts) → AreCounts text level depth trace counts →
+    counts.pending ≡ 0 → counts.failed ≡ 0 → counts.cut ≡ 0 → (n : ℕ) → IsRuleTrue text level trace (length trace.cycles) n
+
+-- a goal has one status at a time
+abbrev pub StatusesAreUnique : Type 0
+StatusesAreUnique = (text : Text) (level : List ℕ → ℕ) (trace : Trace) (depth : ℕ) (key : GoalKey) (now : ℕ) (one other : Option Closed) →
+    HasStatus text level trace depth key now one → HasStatus text level trace depth key now other → one ≡ other
+
+-- ---- goals, runs and reports
+
+-- the goals that a trace has by now are one list
+abbrev pub GoalsAreUnique : Type 0
+GoalsAreUnique = (text : Text) (level : List ℕ → ℕ) (trace : Trace) (now : ℕ) (keys others : List GoalKey) →
+    AreGoals text level trace now keys → AreGoals text level trace now others → keys ≡ others
+
+-- a goal keeps its number
+abbrev pub NumbersStay : Type 0
+NumbersStay = (text : Text) (level : List ℕ → ℕ) (trace : Trace) (now later : ℕ) (keys more : List GoalKey) → now ≤ later →
+    AreGoals text level trace now keys → AreGoals text level trace later more → (n : ℕ) (key : GoalKey) → numbered keys n ≡ Some key → numbered more n ≡ Some key
+
+-- some batches have one plain run
+abbrev pub PlainRunsAreUnique : Type 0
+PlainRunsAreUnique = (text : Text) (level : List ℕ → ℕ) (depth : ℕ) (prefer : Prefer) (batches : List (List Atom)) (trace other : Trace) →
+    IsPlainRun text level depth prefer batches trace → IsPlainRun text level depth prefer batches other → trace ≡ other
+
+-- a plain run is a run
+abbrev pub PlainRunsAreRuns : Type 0
+PlainRunsAreRuns = (text : Text) (level : List ℕ → ℕ) (depth : ℕ) (prefer : Prefer) (batches : List (List Atom)) (trace : Trace) →
+    IsPlainRun text level depth prefer batches trace → IsRun text level depth trace
+
+-- the block of a cycle depends on the cycles up to it alone: it is the same in every continuation
+abbrev pub BlocksStay : Type 0
+BlocksStay = (text : Text) (level : List ℕ → ℕ) (depth : ℕ) (trace longer : Trace) → IsContinuation trace longer → (k : ℕ) → k ≤ length trace.cycles →
+    (bytes : List ℕ) → IsBlock text level depth trace k bytes ↔ IsBlock text level depth longer k bytes
+
+-- a cycle has one block
+abbrev pub BlocksAreUnique : Type 0
+BlocksAreUnique = (text : Text) (level : List ℕ → ℕ) (depth : ℕ) (trace : Trace) (k : ℕ) (bytes others : List ℕ) →
+    IsBlock text level depth trace k bytes → IsBlock text level depth trace k others → bytes ≡ others
+
+-- a trace has one report
+abbrev pub ReportsAreUnique : Type 0
+ReportsAreUnique = (text : Text) (level : List ℕ → ℕ) (depth : ℕ) (trace : Trace) (first : ℕ) (bytes others : List ℕ) →
+    IsReport text level depth trace first bytes → IsReport text level depth trace first others → bytes ≡ others
+
+-- two runs of as many cycles, with the same reported of each cycle, are one
+abbrev pub BlocksTellRuns : Type 0
+BlocksTellRuns = (text : Text) (level : List ℕ → ℕ) (depth : ℕ) (trace other : Trace) → IsRun text level depth trace → IsRun text level depth other →
+    length trace.cycles ≡ length other.cycles →
+    ((k : ℕ) → k ≤ length trace.cycles → (block : Block) × IsBlockOf text level depth trace k block × IsBlockOf text level depth other k block) → trace ≡ other
+
+-- ---- nodes
+
+-- single steps along a walk lead from the most general shape of its start to that of its end
+abbrev pub StepsAreGeneral : Type 0
+StepsAreGeneral = (text : Text) (level : List ℕ → ℕ) (trace : Trace) (q : Sequence) (s : Values) (t : Times) → AreGround s → (since now : ℕ) (end : Place) →
+    (walk : Walk text level trace q.given_values s t now end (start text since q.items)) (g k : Shape) → IsGeneral q s t (start text since q.items) g → Chain walk g k →
+    IsGeneral q s t end k
+
+-- a walk's start has a most general shape, and from it single steps along the walk reach the one of its end
+abbrev pub StartIsGeneral : Type 0
+StartIsGeneral = (text : Text) (q : Sequence) (s : Values) (t : Times) → AreGround s → (since : ℕ) → (g : Shape) × IsGeneral q s t (start text since q.items) g
+
+abbrev pub GeneralIsReached : Type 0
+GeneralIsReached = (text : Text) (level : List ℕ → ℕ) (trace : Trace) (q : Sequence) (s : Values) (t : Times) → AreGround s → (since now : ℕ) (end : Place) →
+    (walk : Walk text level trace q.given_values s t now end (start text since q.items)) (g : Shape) → IsGeneral q s t (start text since q.items) g →
+    (k : Shape) × Chain walk g k × IsGeneral q s t end k
+
+-- two most general shapes of a place are instances of each other
+abbrev pub GeneralAreVariants : Type 0
+GeneralAreVariants = (q : Sequence) (s : Values) (t : Times) → AreGround s → (place : Place) (g h : Shape) → IsGeneral q s t place g → IsGeneral q s t place h →
+    (v : ℕ → Term) × (x : ℕ → When) × (h ≡ put_shape v x g)
+
+-- a place has one residual
+abbrev pub ResidualsAreUnique : Type 0
+ResidualsAreUnique = (q : Sequence) (s : Values) (t : Times) → AreGround s → (place : Place) (node other : Node) → IsResidual q s t place node → IsResidual q s t place other →
+    node.alternative ≡ other.alternative → node ≡ other
+
+-- where a plan can go on at a place, the most general of what is left there can come true by itself
+abbrev pub PlansCanComeTrue : Type 0
+PlansCanComeTrue = (text : Text) (level : List ℕ → ℕ) (trace : Trace) (q : Sequence) (s : Values) (t : Times) → AreGround s → (since now : ℕ) → since ≤ now → (end : Place) →
+    Walk text level trace q.given_values s t now end (start text since q.items) → (g : Shape) → IsGeneral q s t end g →
+    CanGoOn text q.given_values s t now q.items end → CanComeTrue text now g
+
+-- Where it can come true by itself, and its groups can be told from the items left, a plan can go on at the place: one that passed the
+-- same, with other times for what is to come.
+abbrev pub WhatCanComeTrueHasPlans : Type 0
+WhatCanComeTrueHasPlans = (text : Text) (level : List ℕ → ℕ) (trace : Trace) (q : Sequence) (s : Values) (t : Times) → AreGround s → (since now : ℕ) → since ≤ now → (end : Place) →
+    Walk text level trace q.given_values s t now end (start text since q.items) → (g : Shape) (is : IsGeneral q s t end g) →
+    (next : Entry) (rest : List Entry) → end.left ≡ next ∷ rest → is_step next.item ≡ true → ShowGroups text is.values is.whens None end.left → CanComeTrue text now g →
+    (other : Times) × (map (other 0) q.given_times ≡ map (t 0) q.given_times) × Walk text level trace q.given_values s other now end (start text since q.items)
+    × CanGoOn text q.given_values s other now q.items end
+
+-- where a plan can go on at a place, its groups can be told from the items left
+abbrev pub PlansShowGroups : Type 0
+PlansShowGroups = (text : Text) (level : List ℕ → ℕ) (trace : Trace) (q : Sequence) (s : Values) (t : Times) → AreGround s → (since now : ℕ) → since ≤ now → (end : Place) →
+    Walk text level trace q.given_values s t now end (start text since q.items) → (g : Shape) (is : IsGeneral q s t end g) →
+    CanGoOn text q.given_values s t now q.items end → ShowGroups text is.values is.whens None end.left
+
+-- So a plan that waits goes on for as long as what is left can come true by itself.
+abbrev pub WaitingPlansGoOn : Type 0
+WaitingPlansGoOn = (text : Text) (level : List ℕ → ℕ) (trace : Trace) (q : Sequence) (s : Values) (t : Times) → AreGround s → (since now later : ℕ) → since ≤ now → now ≤ later → (end : Place) →
+    Walk text level trace q.given_values s t now end (start text since q.items) → (g : Shape) → IsGeneral q s t end g →
+    CanGoOn text q.given_values s t now q.items end → CanComeTrue text later g →
+    (other : Times) × (map (other 0) q.given_times ≡ map (t 0) q.given_times) × Walk text level trace q.given_values s other later end (start text since q.items)
+    × CanGoOn text q.given_values s other later q.items end

@@ -1,0 +1,15 @@
+pub mod Rules
+pub mod Items
+pub mod Holds
+pub mod Denials
+pub mod Sequences
+pub mod Goals
+pub mod Cycles
+pub mod Plain
+pub mod Reports
+pub mod Shapes
+pub mod Steps
+pub mod Nodes
+pub mod Conditions
+pub mod Laws
+pub mod Examples

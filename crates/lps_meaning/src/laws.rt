@@ -1,0 +1,80 @@
+//! The laws of the definitions, each the contract of a function that does nothing.
+
+ghost use Rattle.lps_meaning.specs.Examples.{BegunAnewExample, DeadlineExample, DepthExample, NodeExample, OneGoalExample, WaitingExample};
+ghost use Rattle.lps_meaning.specs.Laws.{BlocksAreUnique, BlocksStay, BlocksTellRuns, CutIsForever, DecidedUpdateLaw, FailedIsForever, GeneralAreVariants, GeneralIsReached, GoalsAreUnique, HoldsIsPersistence, LevelsDoNotMatter, NumbersStay, PlainRunsAreRuns, PlainRunsAreUnique, PlansCanComeTrue, PlansShowGroups, ReportsAreUnique, ResidualsAreUnique, RulesAreTrue, StartIsGeneral, StartLaw, StatusStays, StatusesAreUnique, StepsAreGeneral, UpdateLaw, WaitingPlansGoOn, WhatCanComeTrueHasPlans};
+
+/// A fluent holds in a state exactly where it began by then and did not end since. So state i+1 is state i without
+/// the fluents that are terminated in cycle i+1, together with those that are initiated there; state 0 has the
+/// initial facts.
+pub fn state_law()
+    ensures persistence { HoldsIsPersistence }
+    ensures start { StartLaw }
+    ensures update { UpdateLaw }
+    ensures decided { DecidedUpdateLaw }
+{}
+
+/// What is true in a state does not depend on which levels of the clauses are taken.
+pub fn level_law()
+    ensures { LevelsDoNotMatter }
+{}
+
+/// A goal that is closed stays closed so, in every continuation of the trace. After Failed no alternative becomes
+/// true at any nesting; after Cut none does by calls that nest at most the depth.
+pub fn status_law()
+    ensures unique { StatusesAreUnique }
+    ensures stays { StatusStays }
+    ensures failed { FailedIsForever }
+    ensures cut { CutIsForever }
+{}
+
+/// Where no goal is pending, failed or cut, every rule is true.
+pub fn rule_law()
+    ensures { RulesAreTrue }
+{}
+
+/// The goals of a trace are one list, and a goal keeps its number.
+pub fn goal_law()
+    ensures unique { GoalsAreUnique }
+    ensures stay { NumbersStay }
+{}
+
+/// Some batches have one plain run, and it is a run.
+pub fn plain_law()
+    ensures runs { PlainRunsAreRuns }
+    ensures unique { PlainRunsAreUnique }
+{}
+
+/// The block of a cycle depends on the cycles up to it alone. A cycle has one block, a trace has one report, and
+/// what is reported of all cycles tells the run.
+pub fn report_law()
+    ensures blocks_stay { BlocksStay }
+    ensures blocks { BlocksAreUnique }
+    ensures reports { ReportsAreUnique }
+    ensures tell { BlocksTellRuns }
+{}
+
+/// What is left of a sequence: each place of a walk has a most general shape, which single steps reach and lead to;
+/// such shapes are instances of each other, so a place has one residual. Its time conditions have a solution exactly where a plan can
+/// go on there, as long as its groups can be told from what is left; those of a plan can.
+pub fn node_law()
+    ensures starts { StartIsGeneral }
+    ensures steps { StepsAreGeneral }
+    ensures reached { GeneralIsReached }
+    ensures variants { GeneralAreVariants }
+    ensures unique { ResidualsAreUnique }
+    ensures plans { PlansCanComeTrue }
+    ensures has_plans { WhatCanComeTrueHasPlans }
+    ensures show { PlansShowGroups }
+    ensures waiting { WaitingPlansGoOn }
+{}
+
+/// Small texts with traces: a deadline that passes; one goal for two instances of an antecedent; a goal that waits
+/// for an event and does nothing twice; a plan that is begun anew; a call that nests too deep; and what is left of an antecedent.
+pub fn example_law()
+    ensures deadline { DeadlineExample }
+    ensures one_goal { OneGoalExample }
+    ensures waiting { WaitingExample }
+    ensures begun_anew { BegunAnewExample }
+    ensures depth { DepthExample }
+    ensures node { NodeExample }
+{}

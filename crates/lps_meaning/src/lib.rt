@@ -1,0 +1,24 @@
+//! What rules mean: which fluents hold, which goals there are, what their plans and statuses are, which cycles are
+//! legal, and what is reported.
+//!
+//! It stands on the data of texts and traces and on truth by derivation, and never knows of states that change, of
+//! trails or of what is carried from cycle to cycle: each definition speaks of a whole trace. It carries the law of
+//! states, and the law that a status other than pending stays in every continuation, each as the contract of a
+//! function over the definitions alone. Its types are those that goals are pursued with.
+#![tactic(auto)]
+
+mod goal;
+mod laws;
+mod node;
+mod when;
+
+pub use goal::{Closed, Counts, GoalId, GoalKey, NewGoal};
+pub use laws::{
+    example_law, goal_law, level_law, node_law, plain_law, report_law, rule_law, state_law,
+    status_law,
+};
+pub use node::{Carry, Left, LeftCon, LeftItem, Node};
+pub use when::When;
+
+#[cfg(test)]
+mod tests;
