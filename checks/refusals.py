@@ -85,6 +85,24 @@ NOT_ACCEPTED = [
     ("d if i. i if not d.", "unlevelled d, i"),
 ]
 
+# Texts that are accepted, of each form at its edges: all kinds of statements, an alternative that begins where the antecedent
+# ends, a macro clause that begins and ends at one time, negation under levels, descent on the marked argument, recursion
+# that is guarded, and recursion over several names.
+ACCEPTED = [
+    "if e from T1 to T2 then a from T2 to T3 or p at T2, a from T4 to T5.",
+    "if e from T1 to T2, X = b then q(X) at T2, T2 =< T1 + 1.",
+    "m from T1 to T1 if p at T1.",
+    "m from T1 to T2 if a from T1 to T2, a from T1 to T2, 1 < 2.",
+    "false e from T1 to T2, a from T1 to T2, p at T1, not q(b) at T2, 1 < 2.",
+    "e initiates two(X, Y) if two(Y, X), not q(X), Y is X + 1. a terminates p.",
+    "d if not i. i.",
+    "timeless len(*, -). len(nil, z). len(c(X, L), s(N)) if len(L, N).",
+    "timeless even(*), odd(*). even(z). even(s(X)) if odd(X). odd(s(X)) if even(X).",
+    "macro go(*). go(s(X)) from T1 to T3 if a from T1 to T2, go(X) from T2 to T3. go(z) from T1 to T2 if a from T1 to T2.",
+    "macro n. m from T1 to T3 if a from T1 to T2, n from T2 to T3. n from T1 to T3 if e from T1 to T2, m from T2 to T3.",
+    "derived j, k. j if not k, i. k if i. i if p.",
+]
+
 # What stands in the line of cycle 1, and how the stream is refused for it; None where the cycle is made.
 LINES = [
     ("1: e.", None),
@@ -146,6 +164,9 @@ def text_cases():
     for statement, refusal in [*TEXTS, *NOT_ACCEPTED]:
         for line, text in around(statement):
             yield f"text, line {line}: {statement[:40]}", text, expected(3, "text", line, refusal)
+    for statements in ACCEPTED:
+        for line, text in around(statements):
+            yield f"text, line {line}: {statements[:40]}", text, (0, "")
     for number, (statement, refusal) in enumerate(NOT_ACCEPTED):
         for later, _ in NOT_ACCEPTED[number + 1 :]:
             text = f"{later}\n{DECLARED}{statement}\n"
