@@ -45,7 +45,7 @@ never (suc (suc zero)) u h = nothing_contained _ h
 never (suc (suc (suc zero))) u h = nothing_contained _ h
 never (suc (suc (suc (suc k)))) u h = nothing_contained _ h
 
-too_late : (n : ℕ) → 3 ≤ n → pos (suc n) ≤ℤ pos 3 → ⊥
+pub too_late : (n : ℕ) → 3 ≤ n → pos (suc n) ≤ℤ pos 3 → ⊥
 too_late n ahead bound = omega (arith, ints)
 
 in_time : (c : ℕ) → c ≤ 2 → pos (suc c) ≤ℤ (pos 1 +ℤ pos 2)

@@ -22,7 +22,7 @@ use Rattle.lps_meaning.specs.Sequences.{Entry, Place, Values, Times, Walk, stop,
 
 -- ---- lists and atoms
 
-abbrev head_or : {X : Type 0} → X → List X → X
+abbrev pub head_or : {X : Type 0} → X → List X → X
 head_or d [] = d
 head_or d (x ∷ xs) = x
 

@@ -2,12 +2,19 @@ pub mod Persistence
 pub mod Walks
 pub mod Splits
 pub mod Statuses
+pub mod Framing
 pub mod Prefixes
+pub mod Continuations
 pub mod RuleLaws
 pub mod Numbers
 pub mod Uniqueness
 pub mod ReportLaws
 pub mod ShapeLaws
+pub mod TextPieces
+pub mod AtomTexts
+pub mod BlockTexts
+pub mod BlockLines
+pub mod GroundRuns
 mod ExampleWalks
 mod Deadline
 mod OneGoal
@@ -26,3 +33,11 @@ pub mod Unifiers
 pub mod Existence
 pub mod Reaching
 mod NodeExample
+mod StateExamples
+mod RejectExample
+mod Fire
+mod OtherAlternative
+mod OneOrder
+mod ParcelOffice
+mod Nesting
+mod OneAfterOther

@@ -15,7 +15,7 @@ use Rattle.lps_terms.specs.OrderLaws.{atom_cmp_total, atom_cmp-IsAntisymmetric}
 use Rattle.lps_model.specs.declared.cycle.Cycle.{Cycle}
 use Rattle.lps_model.specs.declared.trace.Trace.{Trace}
 use Rattle.lps_model.specs.Run.{AreInitial}
-use Rattle.lps_model.specs.Trace.{cycle_or_none}
+use Rattle.lps_model.specs.Trace.{cycle_at, cycle_or_none}
 use Rattle.lps_model.proofs.Elements.{first_or_later, first_is_contained, later_is_contained, nothing_contained, sorted_same}
 use Rattle.lps_model.proofs.Growth.{AreSame, same_back}
 use Rattle.lps_meaning.specs.declared.goal.Closed.{Closed}
@@ -246,11 +246,17 @@ cycle_of (x ∷ xs) (y ∷ ys) len each =
     let rest = cycle_of xs ys (omega (arith, len)) (λ k lt. each (suc k) (omega arith)) in
     λ i. first i ∷ rest i
 
+-- two traces with the initial facts of one text, and the same cycles
+pub trace_of_cycles : (text : Text) (trace other : Trace) → AreInitial text trace.initial → AreInitial text other.initial →
+    length trace.cycles ≡ length other.cycles → ((k : ℕ) → k < length trace.cycles → cycle_at trace (suc k) ≡ cycle_at other (suc k)) → trace ≡ other
+trace_of_cycles text trace other s t len each =
+    let initial : trace.initial ≡ other.initial = sorted_same atom_cmp_total atom_cmp-IsAntisymmetric trace.initial other.initial s.sorted t.sorted
+    (λ q among. (t.exact q).1 ((s.exact q).0 among)) (λ q among. (s.exact q).1 ((t.exact q).0 among)) in
+    let cycles = cycle_of trace.cycles other.cycles len each in
+    λ i. record { initial = initial i; cycles = cycles i }
+
 pub trace_of_blocks : (text : Text) (level : List ℕ → ℕ) (depth : ℕ) (trace other : Trace) → AreInitial text trace.initial → AreInitial text other.initial →
     length trace.cycles ≡ length other.cycles →
     ((k : ℕ) → k ≤ length trace.cycles → (block : Block) × IsBlockOf text level depth trace k block × IsBlockOf text level depth other k block) → trace ≡ other
 trace_of_blocks text level depth trace other s t len each =
-    let initial : trace.initial ≡ other.initial = sorted_same atom_cmp_total atom_cmp-IsAntisymmetric trace.initial other.initial s.sorted t.sorted
-    (λ q among. (t.exact q).1 ((s.exact q).0 among)) (λ q among. (s.exact q).1 ((t.exact q).0 among)) in
-    let cycles = cycle_of trace.cycles other.cycles len (λ k lt. let b = each (suc k) (omega arith) in sym b.1.cycle ∙ b.2.cycle) in
-    λ i. record { initial = initial i; cycles = cycles i }
+    trace_of_cycles text trace other s t len (λ k lt. let b = each (suc k) (omega arith) in sym b.1.cycle ∙ b.2.cycle)

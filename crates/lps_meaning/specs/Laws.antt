@@ -1,11 +1,15 @@
 -- The laws of the definitions, each a statement over texts, traces and keys.
-use Rattle.std.specs.Prelude.{◌≡◌, ◌⊎◌, ◌↔◌, ◌≤◌, ◌++◌, ℕ, suc, List, length, Option, Some, Contains, true, None, ◌∷◌, map}
+use Rattle.std.specs.Prelude.{◌≡◌, ◌⊎◌, ◌↔◌, ◌≤◌, ◌++◌, ℕ, suc, IsTrue, List, length, Option, Some, Contains, true, None, ◌∷◌, map}
+use Rattle.std.specs.List.{AllByRecursion}
 use Rattle.lps_terms.specs.declared.atom.Atom.{Atom}
 use Rattle.lps_terms.specs.declared.prefer.Prefer.{Prefer}
+use Rattle.lps_terms.specs.Printed.{atom_text}
 use Rattle.lps_terms.specs.declared.term.Term.{Term}
 use Rattle.lps_terms.specs.declared.text.Text.{Text}
 use Rattle.lps_model.specs.declared.cycle.Cycle.{Cycle}
 use Rattle.lps_model.specs.declared.trace.Trace.{Trace}
+use Rattle.lps_model.specs.Formed.{is_formed}
+use Rattle.lps_model.specs.Acceptance.{IsAccepted}
 use Rattle.lps_derivation.specs.Clauses.{clauses}
 use Rattle.lps_derivation.specs.Levels.{AreLevels}
 use Rattle.lps_meaning.specs.declared.goal.Closed.{Closed}
@@ -20,7 +24,7 @@ use Rattle.lps_meaning.specs.Cycles.{AreGoals, IsRun}
 use Rattle.lps_meaning.specs.Goals.{IsClosed, HasStatus, IsMet, IsMetWithin, IsRuleTrue, AreGround, CanGoOn}
 use Rattle.lps_meaning.specs.Nodes.{IsResidual}
 use Rattle.lps_meaning.specs.Plain.{IsPlainRun}
-use Rattle.lps_meaning.specs.Reports.{Block, IsBlockOf, IsBlock, IsReport, AreCounts}
+use Rattle.lps_meaning.specs.Reports.{Block, IsBlockOf, IsBlock, IsReport, IsGroundAtom, IsGroundBlock, IsGroundCycle, IsSmallCycle, block_text, AreCounts}
 use Rattle.lps_meaning.specs.Rules.{AreFramed, numbered}
 use Rattle.lps_meaning.specs.Sequences.{Entry, is_step, Place, Values, Times, Walk, start}
 use Rattle.lps_meaning.specs.Shapes.{Sequence, Shape, IsGeneral, put_shape}
@@ -56,6 +60,12 @@ abbrev pub LevelsDoNotMatter : Type 0
 LevelsDoNotMatter = (text : Text) (level other : List ℕ → ℕ) → AreLevels (clauses text) level → AreLevels (clauses text) other →
     (trace : Trace) (i : ℕ) (a : Atom) → IsTrueAt text level trace i a ↔ IsTrueAt text other trace i a
 
+-- ---- texts
+
+-- each macro clause of an accepted text has the times of its first and last step
+abbrev pub AcceptedAreFramed : Type 0
+AcceptedAreFramed = (text : Text) → IsAccepted text → AreFramed text
+
 -- ---- statuses
 
 -- the longer trace goes on from the other, whether by legal cycles or not
@@ -69,19 +79,19 @@ abbrev pub InEachContinuation : (Trace → GoalKey → ℕ → Type 0) → (Trac
 InEachContinuation Now Later = (trace longer : Trace) → IsContinuation trace longer → (key : GoalKey) (now later : ℕ) →
     key.time ≤ now → now ≤ length trace.cycles → now ≤ later → Now trace key now → Later longer key later
 
--- a goal that is closed stays closed so
-abbrev pub StatusStays : Type 0
-StatusStays = (text : Text) (level : List ℕ → ℕ) (depth : ℕ) → AreFramed text → (how : Closed) → InEachContinuation
+-- a goal that is closed stays closed so, in texts of this sort
+abbrev pub StatusStays : (Text → Type 0) → Type 0
+StatusStays IsOfSort = (text : Text) (level : List ℕ → ℕ) (depth : ℕ) → IsOfSort text → (how : Closed) → InEachContinuation
     (λ trace key now. IsClosed text level trace depth key now how) (λ longer key later. IsClosed text level longer depth key later how)
 
--- after Failed no alternative becomes true, at any nesting
-abbrev pub FailedIsForever : Type 0
-FailedIsForever = (text : Text) (level : List ℕ → ℕ) (depth : ℕ) → AreFramed text → InEachContinuation
+-- in texts of this sort no alternative becomes true after Failed, at any nesting
+abbrev pub FailedIsForever : (Text → Type 0) → Type 0
+FailedIsForever IsOfSort = (text : Text) (level : List ℕ → ℕ) (depth : ℕ) → IsOfSort text → InEachContinuation
     (λ trace key now. IsClosed text level trace depth key now c.Failed) (λ longer key later. IsMet text level longer key later → ⊥)
 
--- after Cut none does by an instance that nests at most the depth
-abbrev pub CutIsForever : Type 0
-CutIsForever = (text : Text) (level : List ℕ → ℕ) (depth : ℕ) → AreFramed text → InEachContinuation
+-- in texts of this sort none does after Cut by an instance that nests at most the depth
+abbrev pub CutIsForever : (Text → Type 0) → Type 0
+CutIsForever IsOfSort = (text : Text) (level : List ℕ → ℕ) (depth : ℕ) → IsOfSort text → InEachContinuation
     (λ trace key now. IsClosed text level trace depth key now c.Cut) (λ longer key later. IsMetWithin text level longer depth key later → ⊥)
 
 -- where no goal is pending, failed or cut, every rule is true
@@ -136,6 +146,27 @@ abbrev pub BlocksTellRuns : Type 0
 BlocksTellRuns = (text : Text) (level : List ℕ → ℕ) (depth : ℕ) (trace other : Trace) → IsRun text level depth trace → IsRun text level depth other →
     length trace.cycles ≡ length other.cycles →
     ((k : ℕ) → k ≤ length trace.cycles → (block : Block) × IsBlockOf text level depth trace k block × IsBlockOf text level depth other k block) → trace ≡ other
+
+-- a ground atom is told by its text
+abbrev pub AtomsAreTold : Type 0
+AtomsAreTold = (a b : Atom) → IsGroundAtom a → IsGroundAtom b → atom_text a ≡ atom_text b → a ≡ b
+
+-- what is reported of cycle k of one trace or of two is one, where it is ground and has the same bytes
+abbrev pub BytesTellBlocks : Type 0
+BytesTellBlocks = (text : Text) (level : List ℕ → ℕ) (depth : ℕ) (trace other : Trace) (k : ℕ) (block another : Block) →
+    IsBlockOf text level depth trace k block → IsBlockOf text level depth other k another → IsGroundBlock block → IsGroundBlock another →
+    block_text k block ≡ block_text k another → block ≡ another
+
+-- two runs of as many ground cycles, with blocks of the same bytes, are one
+abbrev pub BytesTellRuns : Type 0
+BytesTellRuns = (text : Text) (level : List ℕ → ℕ) (depth : ℕ) (trace other : Trace) → IsRun text level depth trace → IsRun text level depth other →
+    AllByRecursion IsGroundCycle trace.cycles → AllByRecursion IsGroundCycle other.cycles → length trace.cycles ≡ length other.cycles →
+    ((k : ℕ) → k ≤ length trace.cycles → (bytes : List ℕ) × IsBlock text level depth trace k bytes × IsBlock text level depth other k bytes) → trace ≡ other
+
+-- the cycles of a run of a well-formed text are ground, as long as their numbers have 64 bits
+abbrev pub RunsAreGround : Type 0
+RunsAreGround = (text : Text) (level : List ℕ → ℕ) (depth : ℕ) (trace : Trace) → IsTrue (is_formed text) → IsRun text level depth trace →
+    AllByRecursion IsSmallCycle trace.cycles → AllByRecursion IsGroundCycle trace.cycles
 
 -- ---- nodes
 

@@ -1,7 +1,8 @@
 //! The laws of the definitions, each the contract of a function that does nothing.
 
-ghost use Rattle.lps_meaning.specs.Examples.{BegunAnewExample, DeadlineExample, DepthExample, NodeExample, OneGoalExample, WaitingExample};
-ghost use Rattle.lps_meaning.specs.Laws.{BlocksAreUnique, BlocksStay, BlocksTellRuns, CutIsForever, DecidedUpdateLaw, FailedIsForever, GeneralAreVariants, GeneralIsReached, GoalsAreUnique, HoldsIsPersistence, LevelsDoNotMatter, NumbersStay, PlainRunsAreRuns, PlainRunsAreUnique, PlansCanComeTrue, PlansShowGroups, ReportsAreUnique, ResidualsAreUnique, RulesAreTrue, StartIsGeneral, StartLaw, StatusStays, StatusesAreUnique, StepsAreGeneral, UpdateLaw, WaitingPlansGoOn, WhatCanComeTrueHasPlans};
+ghost use Rattle.lps_model.specs.Acceptance.{IsAccepted};
+ghost use Rattle.lps_meaning.specs.Examples.{BegunAnewExample, DeadlineExample, DepthExample, FireExample, InitiationWinsExample, NestingExample, NodeExample, OldStateExample, OneAfterOtherExample, OneGoalExample, OneOrderExample, OtherAlternativeExample, ParcelOfficeExample, RejectExample, WaitingExample};
+ghost use Rattle.lps_meaning.specs.Laws.{AcceptedAreFramed, AtomsAreTold, BlocksAreUnique, BlocksStay, BlocksTellRuns, BytesTellBlocks, BytesTellRuns, CutIsForever, DecidedUpdateLaw, FailedIsForever, GeneralAreVariants, GeneralIsReached, GoalsAreUnique, HoldsIsPersistence, LevelsDoNotMatter, NumbersStay, PlainRunsAreRuns, PlainRunsAreUnique, PlansCanComeTrue, PlansShowGroups, ReportsAreUnique, ResidualsAreUnique, RulesAreTrue, RunsAreGround, StartIsGeneral, StartLaw, StatusStays, StatusesAreUnique, StepsAreGeneral, UpdateLaw, WaitingPlansGoOn, WhatCanComeTrueHasPlans};
 
 /// A fluent holds in a state exactly where it began by then and did not end since. So state i+1 is state i without
 /// the fluents that are terminated in cycle i+1, together with those that are initiated there; state 0 has the
@@ -18,13 +19,19 @@ pub fn level_law()
     ensures { LevelsDoNotMatter }
 {}
 
+/// Each macro clause of an accepted text begins with its first step and ends with its last.
+pub fn frame_law()
+    ensures { AcceptedAreFramed }
+{}
+
 /// A goal that is closed stays closed so, in every continuation of the trace. After Failed no alternative becomes
-/// true at any nesting; after Cut none does by calls that nest at most the depth.
+/// true at any nesting; after Cut none does by calls that nest at most the depth. All this holds for accepted texts,
+/// of which it needs no more than `frame_law` says.
 pub fn status_law()
     ensures unique { StatusesAreUnique }
-    ensures stays { StatusStays }
-    ensures failed { FailedIsForever }
-    ensures cut { CutIsForever }
+    ensures stays { StatusStays IsAccepted }
+    ensures failed { FailedIsForever IsAccepted }
+    ensures cut { CutIsForever IsAccepted }
 {}
 
 /// Where no goal is pending, failed or cut, every rule is true.
@@ -45,12 +52,18 @@ pub fn plain_law()
 {}
 
 /// The block of a cycle depends on the cycles up to it alone. A cycle has one block, a trace has one report, and
-/// what is reported of all cycles tells the run.
+/// what is reported of all cycles tells the run. Ground atoms are told by their texts, and ground blocks by their
+/// bytes; so two runs of as many ground cycles, with blocks of the same bytes, are one. The cycles of a run of a
+/// well-formed text are ground, as long as their numbers have 64 bits.
 pub fn report_law()
     ensures blocks_stay { BlocksStay }
     ensures blocks { BlocksAreUnique }
     ensures reports { ReportsAreUnique }
     ensures tell { BlocksTellRuns }
+    ensures atoms { AtomsAreTold }
+    ensures block_bytes { BytesTellBlocks }
+    ensures bytes { BytesTellRuns }
+    ensures ground { RunsAreGround }
 {}
 
 /// What is left of a sequence: each place of a walk has a most general shape, which single steps reach and lead to;
@@ -68,13 +81,24 @@ pub fn node_law()
     ensures waiting { WaitingPlansGoOn }
 {}
 
-/// Small texts with traces: a deadline that passes; one goal for two instances of an antecedent; a goal that waits
-/// for an event and does nothing twice; a plan that is begun anew; a call that nests too deep; and what is left of an antecedent.
+/// Small texts with traces. States and denials: what is initiated and terminated at once, conditions read in the state
+/// before, and events that are rejected. Goals: one that is solved, a deadline that passes, another alternative, one goal
+/// for two instances of an antecedent, one that waits for an event and does nothing twice, a plan that is begun anew, calls
+/// that nest too deep, and the first goals of a parcel office. And what is left of an antecedent.
 pub fn example_law()
     ensures deadline { DeadlineExample }
     ensures one_goal { OneGoalExample }
     ensures waiting { WaitingExample }
     ensures begun_anew { BegunAnewExample }
     ensures depth { DepthExample }
+    ensures nesting { NestingExample }
+    ensures one_after_other { OneAfterOtherExample }
     ensures node { NodeExample }
+    ensures initiation_wins { InitiationWinsExample }
+    ensures old_state { OldStateExample }
+    ensures reject { RejectExample }
+    ensures one_order { OneOrderExample }
+    ensures fire { FireExample }
+    ensures other_alternative { OtherAlternativeExample }
+    ensures parcel_office { ParcelOfficeExample }
 {}

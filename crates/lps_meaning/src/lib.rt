@@ -14,8 +14,8 @@ mod when;
 
 pub use goal::{Closed, Counts, GoalId, GoalKey, NewGoal};
 pub use laws::{
-    example_law, goal_law, level_law, node_law, plain_law, report_law, rule_law, state_law,
-    status_law,
+    example_law, frame_law, goal_law, level_law, node_law, plain_law, report_law, rule_law,
+    state_law, status_law,
 };
 pub use node::{Carry, Left, LeftCon, LeftItem, Node};
 pub use when::When;
