@@ -1,0 +1,11 @@
+use Rattle.std.proofs.Common.{◌≡◌, [], map, take}
+use Rattle.std.specs.List.{flat_map}
+use Rattle.lps_model.specs.VariableLists.{cond_vars}
+use Rattle.lps_derivation.specs.Instances.{put_cond}
+use Rattle.lps_unify.specs.Bindings.{standing}
+use Rattle.lps_solve.specs.Answers.{with_vars}
+use Rattle.lps_solve.proofs.answer.wanted_in.Given as goal
+
+-- the variables of the conditions so far are noted
+abbrev pub invariant-loop-cond : goal.invariant-loop-cond
+invariant-loop-cond l = l.variables.keys ≡ with_vars [] (flat_map cond_vars (map (put_cond (standing l.bindings).value) (take l.cond-index l.conds)))

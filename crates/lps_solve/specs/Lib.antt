@@ -1,0 +1,5 @@
+pub mod Placed
+pub mod Met
+pub mod Found
+pub mod Table
+pub mod Answers

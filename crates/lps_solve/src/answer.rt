@@ -1,0 +1,115 @@
+ghost use Rattle.std.specs.Prelude.{◌≡◌, ◌↔◌, ℕ, List, IfOk, MatchOption, Contains, map};
+ghost use Rattle.std.specs.BTreeSet.{IsOrdered};
+ghost use Rattle.std.specs.List.{flat_map};
+ghost use Rattle.std.specs.List.Sorted.{IsStrictlySortedBy};
+ghost use Rattle.std.specs.Cmp.Lexicographic.{slice_cmp};
+ghost use Rattle.lps_terms.specs.Order.{term_cmp};
+ghost use Rattle.lps_terms.specs.declared.term.Term.{Term as Value};
+ghost use Rattle.lps_terms.specs.declared.term.Term.TheVariants.{Var};
+ghost use Rattle.lps_model.specs.VariableLists.{cond_vars};
+ghost use Rattle.lps_derivation.specs.Instances.{IsSmallCond, put_cond};
+ghost use Rattle.lps_derivation.specs.Levels.{AreLevels};
+ghost use Rattle.lps_facts.specs.Facts.{members};
+ghost use Rattle.lps_unify.specs.Bindings.{count_of};
+ghost use Rattle.lps_solve.specs.Answers.{AreLarge, IsAnswer, IsSound, variables_left};
+ghost use Rattle.lps_solve.specs.Placed.{AreBelow};
+
+use crate::found::rows_of;
+use crate::place_cond::place_cond;
+use crate::program::Program;
+use crate::row::Row;
+use crate::search::{Search, run};
+use crate::solve_error::SolveError;
+use crate::variables::note_cond;
+use lps_facts::Facts;
+use lps_terms::{Args, Cond, Term, Values};
+use lps_unify::Bindings;
+use sqlite_items::Items;
+use std::alloc::{AllocError, Global};
+use std::collections::BTreeSet;
+
+/// The values of the variables that stand in the conditions, by rising number, in each instance of the conditions that is
+/// true, each once and in order. What is bound has its value in its place, and is none of these variables.
+///
+/// The conditions are met from the left. On the way down the search passes at most `fuel` goals and conditions; where there
+/// are more, it answers `TooDeep`. Where a variable has no value though one is needed it answers `Unknown`, and where
+/// memory runs out or no number is left for a variable, `NoMemory`.
+pub fn answers(
+    alloc: Global,
+    program: &Program,
+    facts: &Facts,
+    fuel: u64,
+    conds: &[Cond],
+    bindings: &mut Bindings,
+) -> Result<Vec<Values>, SolveError>
+    requires sound { IsSound program.now (members facts.now) }
+    requires below { AreBelow (count_of bindings.now) 0 (flat_map cond_vars conds.now) }
+    ensures answers { IfOk result (λ found. (level : List ℕ → ℕ) → AreLevels program.now level → (x : List Value) → Contains (map (λ v. v.0) found.items) x ↔ IsAnswer program.now (members facts.now) level bindings.old conds.now x) }
+    ensures sorted { IfOk result (λ found. IsStrictlySortedBy (slice_cmp term_cmp) (map (λ v. v.0) found.items)) }
+    ensures same { bindings.new ≡ bindings.old }
+{
+    match wanted_in(alloc, conds, bindings)? {
+        Some(wanted) => {
+            let search = Search {
+                alloc,
+                program,
+                facts,
+            };
+            bindings.lawful();
+            let mut found = BTreeSet::new(alloc);
+            run(
+                &search,
+                fuel,
+                conds,
+                0,
+                wanted.as_slice(),
+                u64::MAX,
+                bindings,
+                &mut found,
+            )?;
+            Ok(values_of(alloc, found)?)
+        }
+        None => {
+            bindings.lawful();
+            Ok(Vec::new(alloc))
+        }
+    }
+}
+
+/// The variables that stand in the conditions once what is bound is put in, by rising number; none where one of the
+/// conditions is too large.
+fn wanted_in(alloc: Global, conds: &[Cond], bindings: &Bindings) -> Result<Option<Args>, SolveError>
+    requires below { AreBelow (count_of bindings.now) 0 (flat_map cond_vars conds.now) }
+    ensures { IfOk result (λ found. MatchOption found (AreLarge bindings.now conds.now) (λ wanted. wanted ≡ map (λ v. Var v) (variables_left bindings.now conds.now))) }
+{
+    let mut variables = BTreeSet::new(alloc);
+    for cond in conds {
+        match place_cond(alloc, bindings, 0, cond)? {
+            Some(cond) => note_cond(&cond, &mut variables)?,
+            None => return Ok(None),
+        }
+    }
+    Ok(Some(as_terms(alloc, variables)?))
+}
+
+fn as_terms(alloc: Global, variables: BTreeSet<u32>) -> Result<Args, AllocError>
+    ensures { IfOk result (λ terms. terms ≡ map (λ v. Var v) variables.keys) }
+{
+    let mut terms = Vec::new(alloc);
+    for variable in variables {
+        terms.push(Term::Var(variable))?;
+    }
+    Ok(Items::from_vec(terms))
+}
+
+fn values_of(alloc: Global, found: BTreeSet<Row>) -> Result<Vec<Values>, AllocError>
+    ensures all { IfOk result (λ values. map (λ v. v.0) values.items ≡ found.keys) }
+    ensures sorted { IsOrdered (slice_cmp term_cmp) found }
+{
+    let _count = found.len();
+    let mut values = Vec::new(alloc);
+    for row in found {
+        values.push(Values(row.into_terms()))?;
+    }
+    Ok(values)
+}
