@@ -1,6 +1,6 @@
 -- What is printed of ground facts, new goals and closed goals tells them, and so a whole block is told.
 use Rattle.std.proofs.Common.{ℕ, zero, suc, ◌≡◌, ◌<◌, Bool, true, List, [], ◌∷◌, ◌++◌, length, map, refl, sym, ap, subst, ◌∙◌, arith, append_assoc}
-use Rattle.std.specs.Prelude.{false, ◌==◌, ◌||◌, ◌^◌, codes, Contains, Some}
+use Rattle.std.specs.Prelude.{false, ◌==◌, ◌||◌, ◌&&◌, ◌^◌, codes, Contains, Some}
 use Rattle.std.specs.Char.{is_ascii_digit}
 use Rattle.std.specs.Fmt.{decimal}
 use Rattle.std.specs.List.{AllByRecursion, flat_map}
@@ -21,22 +21,22 @@ use Rattle.lps_meaning.specs.Goals.{shared_values}
 use Rattle.lps_meaning.specs.Reports.{Block, block_text, closed_line, closed_word, goal_line, IsBlockOf, IsGroundAtom, IsGroundBlock, IsGroundGoal, with_values}
 use Rattle.lps_meaning.specs.Rules.{numbered, Rule, rules}
 use Rattle.lps_meaning.proofs.AtomTexts.{all_told, atom_told, is_inner, IsGroundTerm, IsTold, same_counted, same_led, stops_digit, term_told}
-use Rattle.lps_meaning.proofs.BlockTexts.{same_cycle}
+use Rattle.lps_meaning.proofs.BlockTexts.{block_end, same_cycle}
 use Rattle.lps_meaning.proofs.Numbers.{numbered_one}
-use Rattle.lps_meaning.proofs.TextPieces.{Begins, cancel_front, head_or, not_both, same_number, Stops, tail}
+use Rattle.lps_meaning.proofs.TextPieces.{cancel_front, head_or, same_number, Stops, tail}
 
 -- ---- lines of one kind
 
-module _ {X : Type 0} (P : X → Type 0) (line : X → List ℕ) (first : ℕ → Bool) (begins : (x : X) (rest : List ℕ) → Begins first (line x ++ rest))
+module _ {X : Type 0} (P : X → Type 0) (line : X → List ℕ) (starts : List ℕ → Bool) (begins : (x : X) (rest : List ℕ) → starts (line x ++ rest) ≡ true)
     (told : (x y : X) → P x → P y → (rest after : List ℕ) → line x ++ rest ≡ line y ++ after → (x ≡ y) × (rest ≡ after)) where
-  line_begins : (x : X) (lines rest : List ℕ) → Begins first ((line x ++ lines) ++ rest)
-  line_begins x lines rest = subst (Begins first) (sym (append_assoc (line x) lines rest)) (begins x (lines ++ rest))
+  not_here : (x : X) (lines rest after : List ℕ) → starts after ≡ false → (line x ++ lines) ++ rest ≡ after → ⊥
+  not_here x lines rest after stops e = let starting = begins x (lines ++ rest) in let same = ap starts (sym (append_assoc (line x) lines rest) ∙ e) in absurd cc
 
-  same_lines : (xs ys : List X) → AllByRecursion P xs → AllByRecursion P ys → (rest after : List ℕ) → Stops first rest → Stops first after →
+  same_lines : (xs ys : List X) → AllByRecursion P xs → AllByRecursion P ys → (rest after : List ℕ) → starts rest ≡ false → starts after ≡ false →
       flat_map line xs ++ rest ≡ flat_map line ys ++ after → (xs ≡ ys) × (rest ≡ after)
   same_lines [] [] g h rest after stops ends e = (refl, e)
-  same_lines [] (y ∷ ys) g h rest after stops ends e = absurd (not_both first (flat_map line (y ∷ ys) ++ after) rest (line_begins y (flat_map line ys) after) stops (sym e))
-  same_lines (x ∷ xs) [] g h rest after stops ends e = absurd (not_both first (flat_map line (x ∷ xs) ++ rest) after (line_begins x (flat_map line xs) rest) ends e)
+  same_lines [] (y ∷ ys) g h rest after stops ends e = absurd (not_here y (flat_map line ys) after rest stops (sym e))
+  same_lines (x ∷ xs) [] g h rest after stops ends e = absurd (not_here x (flat_map line xs) rest after ends e)
   same_lines (x ∷ xs) (y ∷ ys) g h rest after stops ends e =
       let one = told x y g.0 h.0 (flat_map line xs ++ rest) (flat_map line ys ++ after)
       (sym (append_assoc (line x) (flat_map line xs) rest) ∙ e ∙ append_assoc (line y) (flat_map line ys) after) in
@@ -150,11 +150,12 @@ module _ (text : Text) (k : ℕ) where
 
 -- ---- closed goals
 
--- the first byte of a line of a closed goal
-abbrev is_closed_byte : ℕ → Bool
-is_closed_byte byte = (byte == 115) || (byte == 102) || (byte == 99)
+-- whether a line of a closed goal comes next
+abbrev pub starts_closed : List ℕ → Bool
+starts_closed [] = false
+starts_closed (byte ∷ bytes) = (byte == 115) || (byte == 102) || ((byte == 99) && (head_or 0 bytes == 117))
 
-closed_begins : (n : ℕ) (how : Closed) (rest : List ℕ) → Begins is_closed_byte (closed_line (record { 0 = n }, how) ++ rest)
+closed_begins : (n : ℕ) (how : Closed) (rest : List ℕ) → starts_closed (closed_line (record { 0 = n }, how) ++ rest) ≡ true
 closed_begins n c.Solved rest = refl
 closed_begins n c.Failed rest = refl
 closed_begins n c.Cut rest = refl
@@ -184,26 +185,31 @@ same_closed p q small low rest after e =
 
 -- ---- blocks
 
-abbrev is_goal_byte : ℕ → Bool
-is_goal_byte byte = byte == 103
+-- whether a line of a new goal comes next
+abbrev pub starts_goal : List ℕ → Bool
+starts_goal [] = false
+starts_goal (byte ∷ bytes) = byte == 103
 
-closed_stops : (closed : List (GoalId × Closed)) → Stops is_goal_byte (flat_map closed_line closed ++ [])
-closed_stops [] = tt
-closed_stops (goal ∷ closed) = word_stops goal.1 where
-  word_stops : (how : Closed) → Stops is_goal_byte (((closed_word how ++ decimal goal.0.0 ++ codes "\n") ++ flat_map closed_line closed) ++ [])
+-- no line of a new or closed goal comes next, so a block may end before these bytes
+abbrev pub MayFollow : List ℕ → Type 0
+MayFollow rest = (starts_goal rest ≡ false) × (starts_closed rest ≡ false)
+
+closed_stops : (closed : List (GoalId × Closed)) (rest : List ℕ) → starts_goal rest ≡ false → starts_goal (flat_map closed_line closed ++ rest) ≡ false
+closed_stops [] rest stops = stops
+closed_stops (goal ∷ closed) rest stops = word_stops goal.1 where
+  word_stops : (how : Closed) → starts_goal (((closed_word how ++ decimal goal.0.0 ++ codes "\n") ++ flat_map closed_line closed) ++ rest) ≡ false
   word_stops c.Solved = refl
   word_stops c.Failed = refl
   word_stops c.Cut = refl
 
-same_goals : (text : Text) (k : ℕ) (created others : List NewGoal) (closed rest : List (GoalId × Closed)) → AllByRecursion (IsLineGoal text k) created → AllByRecursion (IsLineGoal text k) others →
-    AllByRecursion IsSmallGoal closed → AllByRecursion IsSmallGoal rest →
-    flat_map goal_line created ++ flat_map closed_line closed ≡ flat_map goal_line others ++ flat_map closed_line rest → (created ≡ others) × (closed ≡ rest)
-same_goals text k created others closed rest g h small low e =
-    let longer = sym (append_assoc (flat_map goal_line created) (flat_map closed_line closed) []) ∙ ap (λ bytes. bytes ++ []) e ∙ append_assoc (flat_map goal_line others) (flat_map closed_line rest) [] in
-    let new = same_lines (IsLineGoal text k) goal_line is_goal_byte (λ x after. refl) (same_goal text k) created others g h
-    (flat_map closed_line closed ++ []) (flat_map closed_line rest ++ []) (closed_stops closed) (closed_stops rest) longer in
-    let old = same_lines IsSmallGoal closed_line is_closed_byte (λ goal after. closed_begins goal.0.0 goal.1 after) same_closed closed rest small low [] [] tt tt new.1 in
-    (new.0, old.0)
+same_goals : (text : Text) (k : ℕ) (created others : List NewGoal) (closed gone : List (GoalId × Closed)) → AllByRecursion (IsLineGoal text k) created → AllByRecursion (IsLineGoal text k) others →
+    AllByRecursion IsSmallGoal closed → AllByRecursion IsSmallGoal gone → (rest after : List ℕ) → MayFollow rest → MayFollow after →
+    flat_map goal_line created ++ (flat_map closed_line closed ++ rest) ≡ flat_map goal_line others ++ (flat_map closed_line gone ++ after) → (created ≡ others) × (closed ≡ gone) × (rest ≡ after)
+same_goals text k created others closed gone g h small low rest after stops ends e =
+    let new = same_lines (IsLineGoal text k) goal_line starts_goal (λ x bytes. refl) (same_goal text k) created others g h
+    (flat_map closed_line closed ++ rest) (flat_map closed_line gone ++ after) (closed_stops closed rest stops.0) (closed_stops gone after ends.0) e in
+    let old = same_lines IsSmallGoal closed_line starts_closed (λ goal bytes. closed_begins goal.0.0 goal.1 bytes) same_closed closed gone small low rest after stops.1 ends.1 new.1 in
+    (new.0, old.0, old.1)
 
 -- element n is contained
 pub number_contained : {X : Type 0} (xs : List X) (n : ℕ) (x : X) → numbered xs n ≡ Some x → Contains xs x
@@ -231,16 +237,31 @@ module _ (text : Text) (level : List ℕ → ℕ) (depth : ℕ) (trace : Trace) 
   line_goals (new ∷ created) within g =
       ((g.0, of_rule new (within new (first_is_contained new created))), line_goals created (λ x among. within x (later_is_contained new created x among)) g.1)
 
+end_before : (block : Block) (rest : List ℕ) → block_end block ++ rest
+    ≡ codes "state" ++ (listed_from false block.facts ++ (10 ∷ (flat_map goal_line block.created ++ (flat_map closed_line block.closed ++ rest))))
+end_before block rest =
+    let goals = flat_map goal_line block.created in
+    let closed = flat_map closed_line block.closed in
+    ap (λ bytes. codes "state" ++ bytes) (append_assoc (listed_from false block.facts) (10 ∷ (goals ++ closed)) rest)
+    ∙ ap (λ bytes. codes "state" ++ (listed_from false block.facts ++ (10 ∷ bytes))) (append_assoc goals closed rest)
+
+-- blocks of one number, before bytes with which neither goes on
+pub block_told_before : (text : Text) (level : List ℕ → ℕ) (depth : ℕ) (trace other : Trace) (k : ℕ) (block another : Block) →
+    IsBlockOf text level depth trace k block → IsBlockOf text level depth other k another → IsGroundBlock block → IsGroundBlock another →
+    (rest after : List ℕ) → MayFollow rest → MayFollow after → block_text k block ++ rest ≡ block_text k another ++ after → (block ≡ another) × (rest ≡ after)
+block_told_before text level depth trace other k block another is same_is g h rest after stops ends e =
+    let cycle = same_cycle k block another g.paired h.paired g.cycle h.cycle rest after e in
+    let goals = flat_map goal_line block.created ++ (flat_map closed_line block.closed ++ rest) in
+    let others = flat_map goal_line another.created ++ (flat_map closed_line another.closed ++ after) in
+    let facts = same_facts block.facts another.facts g.facts h.facts goals others
+    (cancel_front (codes "state") (listed_from false block.facts ++ (10 ∷ goals)) (listed_from false another.facts ++ (10 ∷ others)) (sym (end_before block rest) ∙ cycle.1 ∙ end_before another after)) in
+    let lines = same_goals text k block.created another.created block.closed another.closed
+    (line_goals text level depth trace k block is block.created (λ x among. among) g.created)
+    (line_goals text level depth other k another same_is another.created (λ x among. among) h.created) g.closed h.closed rest after stops ends facts.1 in
+    ((λ i. record { cycle = cycle.0 i; facts = facts.0 i; created = lines.0 i; closed = lines.1 i }), lines.2)
+
 pub block_told : (text : Text) (level : List ℕ → ℕ) (depth : ℕ) (trace other : Trace) (k : ℕ) (block another : Block) →
     IsBlockOf text level depth trace k block → IsBlockOf text level depth other k another → IsGroundBlock block → IsGroundBlock another →
     block_text k block ≡ block_text k another → block ≡ another
 block_told text level depth trace other k block another is same_is g h e =
-    let cycle = same_cycle k block another g.paired h.paired g.cycle h.cycle e in
-    let goals = flat_map goal_line block.created ++ flat_map closed_line block.closed in
-    let others = flat_map goal_line another.created ++ flat_map closed_line another.closed in
-    let facts = same_facts block.facts another.facts g.facts h.facts goals others
-    (cancel_front (codes "state") (listed_from false block.facts ++ (10 ∷ goals)) (listed_from false another.facts ++ (10 ∷ others)) cycle.1) in
-    let rest = same_goals text k block.created another.created block.closed another.closed
-    (line_goals text level depth trace k block is block.created (λ x among. among) g.created)
-    (line_goals text level depth other k another same_is another.created (λ x among. among) h.created) g.closed h.closed facts.1 in
-    λ i. record { cycle = cycle.0 i; facts = facts.0 i; created = rest.0 i; closed = rest.1 i }
+    (block_told_before text level depth trace other k block another is same_is g h [] [] (refl, refl) (refl, refl) (ap (λ bytes. bytes ++ []) e)).0

@@ -145,26 +145,38 @@ block_apart k block =
     ∙ append_assoc (codes "cycle " ++ decimal k) (codes "\n") (verdicts ++ (picks ++ block_end block))
     ∙ append_assoc (codes "cycle ") (decimal k) (10 ∷ (verdicts ++ (picks ++ block_end block)))
 
+-- the same before other bytes
+pub block_before : (k : ℕ) (block : Block) (rest : List ℕ) → block_text k block ++ rest
+    ≡ codes "cycle " ++ (decimal k ++ (10 ∷ (verdict_lines block.cycle.events block.cycle.verdicts ++ (flat_map pick_line block.cycle.picks ++ (block_end block ++ rest)))))
+block_before k block rest =
+    let verdicts = verdict_lines block.cycle.events block.cycle.verdicts in
+    let picks = flat_map pick_line block.cycle.picks in
+    ap (λ bytes. bytes ++ rest) (block_apart k block)
+    ∙ append_assoc (codes "cycle ") (decimal k ++ (10 ∷ (verdicts ++ (picks ++ block_end block)))) rest
+    ∙ ap (λ bytes. codes "cycle " ++ bytes) (append_assoc (decimal k) (10 ∷ (verdicts ++ (picks ++ block_end block))) rest)
+    ∙ ap (λ bytes. codes "cycle " ++ (decimal k ++ (10 ∷ bytes))) (append_assoc verdicts (picks ++ block_end block) rest)
+    ∙ ap (λ bytes. codes "cycle " ++ (decimal k ++ (10 ∷ (verdicts ++ bytes)))) (append_assoc picks (block_end block) rest)
+
 -- as many verdicts as events
 abbrev pub IsPaired : Cycle → Type 0
 IsPaired cycle = length cycle.events ≡ length cycle.verdicts
 
-stops_picks : (ps : List Pick) (block : Block) → Stops is_verdict_byte (flat_map pick_line ps ++ block_end block)
-stops_picks [] block = refl
-stops_picks (p ∷ ps) block = refl
+stops_picks : (ps : List Pick) (block : Block) (rest : List ℕ) → Stops is_verdict_byte (flat_map pick_line ps ++ (block_end block ++ rest))
+stops_picks [] block rest = refl
+stops_picks (p ∷ ps) block rest = refl
 
--- blocks of one number with the same bytes have one cycle, and the same bytes behind it
-pub same_cycle : (k : ℕ) (one other : Block) → IsPaired one.cycle → IsPaired other.cycle → IsGroundCycle one.cycle → IsGroundCycle other.cycle →
-    block_text k one ≡ block_text k other → (one.cycle ≡ other.cycle) × (block_end one ≡ block_end other)
-same_cycle k one other paired matched g h e =
-    let left = flat_map pick_line one.cycle.picks ++ block_end one in
-    let right = flat_map pick_line other.cycle.picks ++ block_end other in
+-- blocks of one number with the same bytes, and others behind them, have one cycle, and the same bytes behind it
+pub same_cycle : (k : ℕ) (one other : Block) → IsPaired one.cycle → IsPaired other.cycle → IsGroundCycle one.cycle → IsGroundCycle other.cycle → (rest after : List ℕ) →
+    block_text k one ++ rest ≡ block_text k other ++ after → (one.cycle ≡ other.cycle) × (block_end one ++ rest ≡ block_end other ++ after)
+same_cycle k one other paired matched g h rest after e =
+    let left = flat_map pick_line one.cycle.picks ++ (block_end one ++ rest) in
+    let right = flat_map pick_line other.cycle.picks ++ (block_end other ++ after) in
     let lines = 10 ∷ (verdict_lines one.cycle.events one.cycle.verdicts ++ left) in
     let others = 10 ∷ (verdict_lines other.cycle.events other.cycle.verdicts ++ right) in
-    let numbered = cancel_front (codes "cycle ") (decimal k ++ lines) (decimal k ++ others) (sym (block_apart k one) ∙ e ∙ block_apart k other) in
+    let numbered = cancel_front (codes "cycle ") (decimal k ++ lines) (decimal k ++ others) (sym (block_before k one rest) ∙ e ∙ block_before k other after) in
     let judged = same_verdicts one.cycle.events other.cycle.events one.cycle.verdicts other.cycle.verdicts paired matched g.events h.events g.verdicts h.verdicts
-    left right (stops_picks one.cycle.picks one) (stops_picks other.cycle.picks other) (ap tail (cancel_front (decimal k) lines others numbered)) in
-    let picked = same_picks one.cycle.picks other.cycle.picks g.picks h.picks (block_end one) (block_end other) refl refl judged.2 in
+    left right (stops_picks one.cycle.picks one rest) (stops_picks other.cycle.picks other after) (ap tail (cancel_front (decimal k) lines others numbered)) in
+    let picked = same_picks one.cycle.picks other.cycle.picks g.picks h.picks (block_end one ++ rest) (block_end other ++ after) refl refl judged.2 in
     ((λ i. record { events = judged.0 i; verdicts = judged.1 i; picks = picked.0 i }), picked.1)
 
 -- ---- runs
@@ -202,4 +214,4 @@ trace_of_bytes text level depth trace other s t g h len each = trace_of_cycles t
       (subst IsPaired (sym two) (of_number IsPaired other.cycles (legal_paired text level depth _ other.cycles t.legal) k behind))
       (subst IsGroundCycle (sym one) (of_number IsGroundCycle trace.cycles g k inside))
       (subst IsGroundCycle (sym two) (of_number IsGroundCycle other.cycles h k behind))
-      (sym b.1.2 ∙ b.2.2)).0 ∙ two
+      [] [] (ap (λ bytes. bytes ++ []) (sym b.1.2 ∙ b.2.2))).0 ∙ two

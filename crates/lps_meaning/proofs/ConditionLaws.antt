@@ -21,7 +21,7 @@ use Rattle.lps_meaning.specs.declared.when.When.TheVariants.{Known, Unknown}
 use Rattle.lps_meaning.specs.Conditions.{time_in, is_same_time, goes_on, AreLeftInOrder, IsLeftAhead, ShowsGroup, ShowGroups, last_or}
 use Rattle.lps_meaning.specs.Items.{put_item}
 use Rattle.lps_meaning.specs.Rules.{is_macro, kind_of}
-use Rattle.lps_meaning.specs.Sequences.{Entry, Place, Values, Times, Walk, stop, pass, replace, entries, joins_to, IsSpanPlaced, IsPlaced, AreInOrder, end_of, IsTrueItem, is_step, IsAhead, HasSameValues, HasSameTimes}
+use Rattle.lps_meaning.specs.Sequences.{Entry, Place, Values, Times, Walk, stop, pass, replace, entries, joins_to, IsSpanPlaced, IsPlaced, AreInOrder, end_of, IsTrueItem, is_call, is_step, IsAhead, HasSameValues, HasSameTimes}
 use Rattle.lps_meaning.specs.Shapes.{Whens, left_of, left_at}
 
 -- ---- marks of groups along a walk
@@ -54,12 +54,12 @@ marked_none text env nest (item ∷ items) last = (
   marked_from text env nest items (record { env = env; nest = nest; joins = false; item = item }) refl,
 )
 
-marked_joined : (text : Text) (last : Option Entry) (xs ys : List Entry) → AreMarked text last xs → ((q : Option Entry) → AreMarked text q ys) → AreMarked text last (xs ++ ys)
+pub marked_joined : (text : Text) (last : Option Entry) (xs ys : List Entry) → AreMarked text last xs → ((q : Option Entry) → AreMarked text q ys) → AreMarked text last (xs ++ ys)
 marked_joined text last [] ys h more = more last
 marked_joined text last (x ∷ xs) ys h more = (h.0, marked_joined text (Some x) xs ys h.1 more)
 
 -- what follows a call is not marked
-macro_is_no_happening : (kind : Option Kind) → is_macro kind ≡ true → happens kind ≡ false
+pub macro_is_no_happening : (kind : Option Kind) → is_macro kind ≡ true → happens kind ≡ false
 macro_is_no_happening None e = refl
 macro_is_no_happening (Some k.Fluent) e = refl
 macro_is_no_happening (Some k.Event) e = absurd (false_true e)
@@ -86,7 +86,7 @@ some_entry {x = x} e = ap (or_else x) e
     or_else d (Some q) = q
     or_else d None = d
 
-marked_behind_call : (text : Text) (e : Entry) (rest : List Entry) (a : Atom) (from to : TimeVar) → e.item ≡ i.Span a from to → is_macro (kind_of text a.name) ≡ true →
+pub marked_behind_call : (text : Text) (e : Entry) (rest : List Entry) (a : Atom) (from to : TimeVar) → e.item ≡ i.Span a from to → is_macro (kind_of text a.name) ≡ true →
     AreMarked text (Some e) rest → (q : Option Entry) → AreMarked text q rest
 marked_behind_call text e [] a from to is macro h q = tt
 marked_behind_call text e (next ∷ rest) a from to is macro h q = (
@@ -106,6 +106,37 @@ module _ (text : Text) (level : List ℕ → ℕ) (trace : Trace) (given : List 
   marked {place = place} (replace e rest a from to number clause left item macro named values times small walk) last h =
       let behind = marked_behind_call text e rest a from to item macro (subst (AreMarked text last) left h).1 in
       marked walk last (marked_joined text last (entries text place.next (suc e.nest) None clause.items) rest (marked_none text place.next (suc e.nest) clause.items last) behind)
+
+  -- an event or action that was passed last ended by now, one after it began
+  abbrev pub IsOver : ℕ → Option Entry → Type 0
+  IsOver now last = (p : Entry) (a : Atom) (from to : TimeVar) → last ≡ Some p → p.item ≡ i.Span a from to → (t p.env to.0 ≤ now) × (t p.env to.0 ≡ suc (t p.env from.0))
+
+  ends_after : (macro joins : Bool) (before from to : ℕ) → macro ≡ false → IsSpanPlaced macro joins before from to → to ≡ suc from
+  ends_after true joins before from to plain h = absurd (false_true (sym plain))
+  ends_after false true before from to plain h = h.0
+  ends_after false false before from to plain h = h.0
+
+  pub over_passed : (now before : ℕ) (e : Entry) → is_call text e.item ≡ false → IsTrueItem text level trace now (t e.env) (put_item (s e.env) e.item) →
+      IsPlaced text (t e.env) before e.joins e.item → IsOver now (Some e)
+  over_passed now before e no_call is_true placed p a from to same is =
+      let here : e ≡ p = some_entry same in
+      let item : e.item ≡ i.Span a from to = ap (λ x. x.item) here ∙ is in
+      let by_now = subst (λ (it : Item). IsTrueItem text level trace now (t e.env) (put_item (s e.env) it)) item is_true in
+      let after = subst (λ (it : Item). IsPlaced text (t e.env) before e.joins it) item placed in
+      let plain : is_macro (kind_of text a.name) ≡ false = sym (ap (is_call text) item) ∙ no_call in
+      subst (λ n. (t n to.0 ≤ now) × (t n to.0 ≡ suc (t n from.0))) (ap (λ x. x.env) here)
+      (by_now.0, ends_after (is_macro (kind_of text a.name)) e.joins before (t e.env from.0) (t e.env to.0) plain after)
+
+  -- marks stay along a walk, and what was passed last is over
+  pub marked_over : {now : ℕ} {end place : Place} → Walk text level trace given s t now end place → (last : Option Entry) → AreMarked text last place.left → IsOver now last →
+      (q : Option Entry) × AreMarked text q end.left × IsOver now q
+  marked_over stop last h over = (last, h, over)
+  marked_over {now} {place = place} (pass env nest joins item rest left no_call is_true small placed walk) last h over =
+      let e : Entry = record { env = env; nest = nest; joins = joins; item = item } in
+      marked_over walk (Some e) (subst (AreMarked text last) left h).1 (over_passed now place.before e no_call is_true placed)
+  marked_over {place = place} (replace e rest a from to number clause left item macro named values times small walk) last h over =
+      let behind = marked_behind_call text e rest a from to item macro (subst (AreMarked text last) left h).1 in
+      marked_over walk last (marked_joined text last (entries text place.next (suc e.nest) None clause.items) rest (marked_none text place.next (suc e.nest) clause.items last) behind) over
 
   end_by : (now env before : ℕ) (item : Item) → before ≤ now → IsTrueItem text level trace now (t env) (put_item (s env) item) → end_of (t env) before item ≤ now
   end_by now env before (i.At lit time) le h = h.0
@@ -151,7 +182,7 @@ same_time_is x (Unknown j) (Unknown k) e = ap x (equal j k e)
 same_time_is x (Known n) (Unknown k) e = absurd (false_true e)
 same_time_is x (Unknown j) (Known m) e = absurd (false_true e)
 
-and_true : (a b : Bool) → (a && b) ≡ true → (a ≡ true) × (b ≡ true)
+pub and_true : (a b : Bool) → (a && b) ≡ true → (a ≡ true) × (b ≡ true)
 and_true true b e = (refl, e)
 and_true false b e = absurd (false_true e)
 
@@ -186,7 +217,7 @@ item_or d (left ∷ rest) = left.item
 
 module _ (text : Text) (u : Values) (w : Whens) (t : Times) (x : ℕ → ℕ) where
   -- the item left of an entry that is no data item, if there is one before
-  abbrev ShowsLast : Option Entry → Option LeftItem → Type 0
+  abbrev pub ShowsLast : Option Entry → Option LeftItem → Type 0
   ShowsLast last shown = (p : Entry) (a : Atom) (from to : TimeVar) → last ≡ Some p → p.item ≡ i.Span a from to → shown ≡ Some (l.Span (put_atom (u p.env) a) (w p.env from.0) (w p.env to.0))
 
   -- a span that was before ended there
@@ -195,7 +226,7 @@ module _ (text : Text) (u : Values) (w : Whens) (t : Times) (x : ℕ → ℕ) wh
   EndedAt before _ = Unit {0}
 
   -- marked and in order, an item left goes on with the group of the one before it
-  marked_shows : (last : Option Entry) (shown : Option LeftItem) (e : Entry) (a : Atom) (from to : TimeVar) → e.item ≡ i.Span a from to → ShowsLast last shown → IsMarked text last e →
+  pub marked_shows : (last : Option Entry) (shown : Option LeftItem) (e : Entry) (a : Atom) (from to : TimeVar) → e.item ≡ i.Span a from to → ShowsLast last shown → IsMarked text last e →
       e.joins ≡ true → goes_on text shown (l.Span (put_atom (u e.env) a) (w e.env from.0) (w e.env to.0)) ≡ true
   marked_shows last shown e a from to is shows marks joins =
       let m = marks joins in
@@ -246,7 +277,7 @@ module _ (text : Text) (u : Values) (w : Whens) (t : Times) (x : ℕ → ℕ) wh
   no_span plain is = false_true (sym plain ∙ ap is_span is)
 
   -- an entry that is no span shows nothing
-  shows_nothing : (e : Entry) (item : Item) (shown : Option LeftItem) → e.item ≡ item → is_span item ≡ false → ShowsLast (Some e) shown
+  pub shows_nothing : (e : Entry) (item : Item) (shown : Option LeftItem) → e.item ≡ item → is_span item ≡ false → ShowsLast (Some e) shown
   shows_nothing e item shown is plain p a from to same span =
       absurd (no_span plain (sym (sym (ap (λ q. q.item) (some_entry same)) ∙ is) ∙ span))
 
@@ -366,7 +397,7 @@ module _ (text : Text) (u : Values) (w : Whens) (t : Times) (x : ℕ → ℕ) wh
 
   -- ---- groups that can be told
 
-  equal_flags : (a b : Bool) → (a ≡ true → b ≡ true) → (b ≡ true → a ≡ true) → a ≡ b
+  pub equal_flags : (a b : Bool) → (a ≡ true → b ≡ true) → (b ≡ true → a ≡ true) → a ≡ b
   equal_flags true true there back = refl
   equal_flags true false there back = sym (there refl)
   equal_flags false true there back = back refl
@@ -431,7 +462,7 @@ module _ (text : Text) (u : Values) (w : Whens) (t : Times) (x : ℕ → ℕ) wh
   alone_left (Some (l.Bare lit)) item plain h = false_true h
   alone_left (Some (l.Built built)) item plain h = false_true h
 
-  shows_plain : (last : Option Entry) (shown : Option LeftItem) (e : Entry) (item : Item) (left : LeftItem) → e.item ≡ item → is_span item ≡ false → is_span_left left ≡ false → IsMarked text last e →
+  pub shows_plain : (last : Option Entry) (shown : Option LeftItem) (e : Entry) (item : Item) (left : LeftItem) → e.item ≡ item → is_span item ≡ false → is_span_left left ≡ false → IsMarked text last e →
       e.joins ≡ goes_on text shown left
   shows_plain last shown e item left is plain plain_left marks =
       equal_flags e.joins (goes_on text shown left) (λ joins. absurd (unmarked last e item is plain marks joins)) (λ on. absurd (alone_left shown left plain_left on))

@@ -1,6 +1,6 @@
 -- The macro clauses of accepted texts are framed: others are refused for the times of their heads.
 use Rattle.std.proofs.Common.{ℕ, zero, suc, Bool, true, false, cond, ◌≡◌, List, [], ◌∷◌, ◌++◌, ◌∙◌, refl, sym, ap, subst, arith}
-use Rattle.std.specs.Prelude.{◌&&◌, ◌==◌, not, if◌then◌else◌, nat_eq, Option, Some, None, slice_get}
+use Rattle.std.specs.Prelude.{◌&&◌, ◌==◌, if◌then◌else◌, nat_eq, Option, Some, None, slice_get}
 use Rattle.std.specs.List.{AllByRecursion, flat_map, filter}
 use Rattle.std.specs.Option.{option_or}
 use Rattle.std.proofs.lemmas.Bool.{and_parts, not-false}
@@ -13,16 +13,14 @@ use Rattle.lps_terms.specs.declared.item.Item.TheVariants as i
 use Rattle.lps_terms.specs.declared.kind.Kind.{Kind}
 use Rattle.lps_terms.specs.declared.refused.Refused.{Refused}
 use Rattle.lps_terms.specs.declared.statement.Statement.{Statement}
-use Rattle.lps_terms.specs.declared.text.Text.{Text}
 use Rattle.lps_terms.specs.declared.time_var.TimeVar.{TimeVar}
 use Rattle.lps_terms.specs.Names.{name_eq}
-use Rattle.lps_model.specs.Acceptance.{IsAccepted}
 use Rattle.lps_model.specs.KindRefusals.{kind_refusal}
 use Rattle.lps_model.specs.Known.{unknown_of}
-use Rattle.lps_model.specs.Order.{Step, happens, are_grouped, joins, with_first, parts, steps_in, steps, last_end_after, last_end, is_time, has_bad_head_times, is_out_of_order, is_mixed_somewhere, first_line, refusal_at, order_refusal}
+use Rattle.lps_model.specs.Order.{happens, are_grouped, joins, with_first, parts, steps_in, steps, last_end_after, last_end, is_time, has_bad_head_times, is_out_of_order, is_mixed_somewhere, first_line, refusal_at, order_refusal}
 use Rattle.lps_model.specs.Order.{first_begin as step_begin}
 use Rattle.lps_meaning.specs.Laws.{AcceptedAreFramed}
-use Rattle.lps_meaning.specs.Rules.{MacroClause, IsFramed, AreFramed, first_begin, last_end_or, macro_clause_in, macro_clauses, clauses_of, numbered, kind_of}
+use Rattle.lps_meaning.specs.Rules.{MacroClause, IsFramed, first_begin, last_end_or, macro_clause_in, macro_clauses, clauses_of, numbered, kind_of}
 
 false_true : false ≡ true → ⊥
 false_true e = cc
@@ -138,7 +136,7 @@ module _ (kind : List ℕ → Option Kind) where
   all_append (x ∷ xs) ys xs_are ys_are = (xs_are.0, all_append xs ys xs_are.1 ys_are)
 
   -- no line, so neither the first statement passes nor a later one
-  no_line : (passes : Bool) (line : ℕ) (later : Option ℕ) → (if passes then Some line else later) ≡ None → (passes ≡ false) × (later ≡ None)
+  pub no_line : (passes : Bool) (line : ℕ) (later : Option ℕ) → (if passes then Some line else later) ≡ None → (passes ≡ false) × (later ≡ None)
   no_line false line later e = (refl, e)
   no_line true line later e = absurd (some_none e)
 
@@ -177,7 +175,7 @@ no_heads None None (Some line) e = absurd (some_none e)
 no_heads None None None e = refl
 
 -- none of two, so not the first, and not the second
-neither : (first second : Option Refused) → option_or first second ≡ None → (first ≡ None) × (second ≡ None)
+pub neither : (first second : Option Refused) → option_or first second ≡ None → (first ≡ None) × (second ≡ None)
 neither None second e = (refl, e)
 neither (Some refused) second e = absurd (some_none e)
 

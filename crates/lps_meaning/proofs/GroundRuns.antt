@@ -42,27 +42,27 @@ use Rattle.lps_meaning.proofs.TextPieces.{all_listed, both}
 
 -- ---- lists
 
-of_element : {X : Type 0} (P : X → Type 0) (xs : List X) (x : X) → AllByRecursion P xs → Contains xs x → P x
+pub of_element : {X : Type 0} (P : X → Type 0) (xs : List X) (x : X) → AllByRecursion P xs → Contains xs x → P x
 of_element P xs x h among = All-contains P xs x (All-from_recursion P xs h) among
 
 of_each : {X : Type 0} (P : X → Type 0) (xs : List X) → ((x : X) → Contains xs x → P x) → AllByRecursion P xs
 of_each P [] h = tt
 of_each P (x ∷ xs) h = (h x (first_is_contained x xs), of_each P xs (λ y among. h y (later_is_contained x xs y among)))
 
-of_filter : {X : Type 0} (P : X → Type 0) (test : X → Bool) (xs : List X) → AllByRecursion P xs → AllByRecursion P (filter test xs)
+pub of_filter : {X : Type 0} (P : X → Type 0) (test : X → Bool) (xs : List X) → AllByRecursion P xs → AllByRecursion P (filter test xs)
 of_filter P test [] h = tt
 of_filter P test (x ∷ xs) h = by (test x) (of_filter P test xs h.1) where
   by : (passes : Bool) → AllByRecursion P (filter test xs) → AllByRecursion P (cond passes (x ∷ filter test xs) (filter test xs))
   by true rest = (h.0, rest)
   by false rest = rest
 
-of_flat : {X Y : Type 0} (P : X → Type 0) (Q : Y → Type 0) (f : X → List Y) → ((x : X) → P x → AllByRecursion Q (f x)) → (xs : List X) → AllByRecursion P xs → AllByRecursion Q (flat_map f xs)
+pub of_flat : {X Y : Type 0} (P : X → Type 0) (Q : Y → Type 0) (f : X → List Y) → ((x : X) → P x → AllByRecursion Q (f x)) → (xs : List X) → AllByRecursion P xs → AllByRecursion Q (flat_map f xs)
 of_flat P Q f each [] h = tt
 of_flat P Q f each (x ∷ xs) h = all_joined Q (f x) (flat_map f xs) (each x h.0) (of_flat P Q f each xs h.1)
 
 -- ---- terms and atoms
 
-word_range : (z : ℤ) → is_word z ≡ is_in_range z
+pub word_range : (z : ℤ) → is_word z ≡ is_in_range z
 word_range (pos n) = refl
 word_range (negsuc n) = refl
 
@@ -104,21 +104,21 @@ module _ (variables : ℕ) (s : ℕ → Term) (ground : (v : ℕ) → IsTrue (is
 -- ---- texts
 
 -- the item is well-formed under some variables and times
-record IsFormedItem (item : Item) : Type 0 where
-  variables : ℕ
-  times : ℕ
-  formed : is_formed_item variables times item ≡ true
+pub record IsFormedItem (item : Item) : Type 0 where
+  pub variables : ℕ
+  pub times : ℕ
+  pub formed : is_formed_item variables times item ≡ true
 
-abbrev AreFormedItems : List Item → Type 0
+abbrev pub AreFormedItems : List Item → Type 0
 AreFormedItems = AllByRecursion IsFormedItem
 
-items_formed : (variables times : ℕ) (items : List Item) → list_all (is_formed_item variables times) items ≡ true → AreFormedItems items
+pub items_formed : (variables times : ℕ) (items : List Item) → list_all (is_formed_item variables times) items ≡ true → AreFormedItems items
 items_formed variables times [] h = tt
 items_formed variables times (item ∷ items) h =
     let parts = both (is_formed_item variables times item) (list_all (is_formed_item variables times) items) h in
     (record { variables = variables; times = times; formed = parts.0 }, items_formed variables times items parts.1)
 
-alternatives_formed : (variables times : ℕ) (all : List (List Item)) → list_all (list_all (is_formed_item variables times)) all ≡ true → AllByRecursion AreFormedItems all
+pub alternatives_formed : (variables times : ℕ) (all : List (List Item)) → list_all (list_all (is_formed_item variables times)) all ≡ true → AllByRecursion AreFormedItems all
 alternatives_formed variables times [] h = tt
 alternatives_formed variables times (items ∷ all) h =
     let parts = both (list_all (is_formed_item variables times) items) (list_all (list_all (is_formed_item variables times)) all) h in
@@ -174,11 +174,11 @@ declared_named variables times (b.Law initiates event fluent conds) h = tt
 declared_named variables times (b.Clause head conds) h = tt
 declared_named variables times (b.MacroClause head begin end items) h = tt
 
-body_formed : (s : Statement) → is_formed_statement s ≡ true → is_formed_body (length s.names) (length s.times) s.body ≡ true
+pub body_formed : (s : Statement) → is_formed_statement s ≡ true → is_formed_body (length s.names) (length s.times) s.body ≡ true
 body_formed s h = (both (nat_le (length s.names) 255 && nat_le (length s.times) 255) (is_formed_body (length s.names) (length s.times) s.body) h).1
 
 module _ (text : Text) (formed : IsTrue (is_formed text)) where
-  statements_formed : AllByRecursion (λ s. is_formed_statement s ≡ true) text.statements
+  pub statements_formed : AllByRecursion (λ s. is_formed_statement s ≡ true) text.statements
   statements_formed = all_listed is_formed_statement text.statements formed
 
   rules_formed : AllByRecursion IsFormedRule (rules text)
@@ -200,7 +200,7 @@ module _ (text : Text) (formed : IsTrue (is_formed text)) where
   abbrev AreFormedEntries : List Entry → Type 0
   AreFormedEntries = AllByRecursion (λ (e : Entry). IsFormedItem e.item)
 
-  entries_formed : (env nest : ℕ) (before : Option Item) (items : List Item) → AreFormedItems items → AreFormedEntries (entries text env nest before items)
+  pub entries_formed : (env nest : ℕ) (before : Option Item) (items : List Item) → AreFormedItems items → AreFormedEntries (entries text env nest before items)
   entries_formed env nest before [] h = tt
   entries_formed env nest before (item ∷ items) h = (h.0, entries_formed env nest (Some item) items h.1)
 

@@ -3,6 +3,7 @@ pub mod Walks
 pub mod Splits
 pub mod Statuses
 pub mod Framing
+pub mod Freshness
 pub mod Prefixes
 pub mod Continuations
 pub mod RuleLaws
@@ -15,6 +16,7 @@ pub mod AtomTexts
 pub mod BlockTexts
 pub mod BlockLines
 pub mod GroundRuns
+pub mod WholeReports
 mod ExampleWalks
 mod Deadline
 mod OneGoal
@@ -28,8 +30,16 @@ pub mod Canonical
 pub mod Moves
 pub mod Sizes
 pub mod ConditionLaws
+pub mod Colours
+pub mod Orderly
 pub mod NodeLaws
 pub mod Unifiers
+pub mod ShownGroups
+pub mod IntegerTimes
+pub mod TimesLeft
+pub mod Cleaning
+pub mod Lifting
+pub mod LiftingAlone
 pub mod Existence
 pub mod Reaching
 mod NodeExample

@@ -66,7 +66,7 @@ module _ (s u : Values) (t w : Times) where
   abbrev Same : ℕ → ℕ → Item → Type 0
   Same env nest item = ◌≡◌ {A = List Left} (left_of (s env) (all_known t env) nest item) (left_of (u env) (all_known w env) nest item)
 
-  item_moved : (env nest : ℕ) (item : Item) → Same env nest item → put_item (s env) item ≡ put_item (u env) item
+  pub item_moved : (env nest : ℕ) (item : Item) → Same env nest item → put_item (s env) item ≡ put_item (u env) item
   item_moved env nest (i.At lit time) e = ap (λ ls. i.At (lit_in (put_lit (s env) lit) (item_in (l.At (put_lit (s env) lit) (Known (t env time.0))) ls)) time) e
   item_moved env nest (i.Bare lit) e = ap (λ ls. i.Bare (lit_in (put_lit (s env) lit) (item_in (l.Bare (put_lit (s env) lit)) ls))) e
   item_moved env nest (i.Built c) e = ap (λ ls. i.Built (built_in (put_built (s env) c) (item_in (l.Built (put_built (s env) c)) ls))) e
@@ -80,7 +80,7 @@ module _ (s u : Values) (t w : Times) where
   second_moved : (env nest : ℕ) (item : Item) → Same env nest item → second_in (item_in nothing (left_of (s env) (all_known t env) nest item)) ≡ second_in (item_in nothing (left_of (u env) (all_known w env) nest item))
   second_moved env nest item e = ap (λ ls. second_in (item_in nothing ls)) e
 
-  placed_moved : (text : Text) (env nest before : ℕ) (joins : Bool) (item : Item) → Same env nest item → IsPlaced text (t env) before joins item → IsPlaced text (w env) before joins item
+  pub placed_moved : (text : Text) (env nest before : ℕ) (joins : Bool) (item : Item) → Same env nest item → IsPlaced text (t env) before joins item → IsPlaced text (w env) before joins item
   placed_moved text env nest before joins (i.At lit time) e h = subst (λ n. before ≤ n) (first_moved env nest (i.At lit time) e) h
   placed_moved text env nest before joins (i.Span a from to) e h =
       subst (λ n. IsSpanPlaced (is_macro (kind_of text a.name)) joins before n (w env to.0)) (first_moved env nest (i.Span a from to) e)
@@ -89,7 +89,7 @@ module _ (s u : Values) (t w : Times) where
   placed_moved text env nest before joins (i.Built c) e h = h
   placed_moved text env nest before joins (i.Con con) e h = h
 
-  end_moved : (env nest before : ℕ) (item : Item) → Same env nest item → end_of (t env) before item ≡ end_of (w env) before item
+  pub end_moved : (env nest before : ℕ) (item : Item) → Same env nest item → end_of (t env) before item ≡ end_of (w env) before item
   end_moved env nest before (i.At lit time) e = first_moved env nest (i.At lit time) e
   end_moved env nest before (i.Span a from to) e = second_moved env nest (i.Span a from to) e
   end_moved env nest before (i.Bare lit) e = refl
@@ -98,7 +98,7 @@ module _ (s u : Values) (t w : Times) where
 
   module _ (text : Text) (level : List ℕ → ℕ) (trace : Trace) where
     -- an item of an instance, with its times by the one and by the other
-    times_moved : (now env nest : ℕ) (item : Item) → Same env nest item → IsTrueItem text level trace now (t env) (put_item (u env) item) →
+    pub times_moved : (now env nest : ℕ) (item : Item) → Same env nest item → IsTrueItem text level trace now (t env) (put_item (u env) item) →
         IsTrueItem text level trace now (w env) (put_item (u env) item)
     times_moved now env nest (i.At lit time) e h =
         subst (λ n. (n ≤ now) × IsTrueLit text level trace n (put_lit (u env) lit)) (first_moved env nest (i.At lit time) e) h
@@ -109,12 +109,12 @@ module _ (s u : Values) (t w : Times) where
     times_moved now env nest (i.Con con) e h = h
 
     module _ (given : List ℕ) where
-      past_of : (P : Entry → Type 0) {now : ℕ} {end place : Place} → Walk text level trace given s t now end place → AllByRecursion P end.past → AllByRecursion P place.past
+      pub past_of : (P : Entry → Type 0) {now : ℕ} {end place : Place} → Walk text level trace given s t now end place → AllByRecursion P end.past → AllByRecursion P place.past
       past_of P stop h = h
       past_of P (pass env nest joins item rest left no_call is_true small placed walk) h = (past_of P walk h).1
       past_of P (replace o rest a from to number clause left item macro named vals whens small walk) h = past_of P walk h
 
-      links_of : (P : Link → Type 0) {now : ℕ} {end place : Place} → Walk text level trace given s t now end place → AllByRecursion P end.links → AllByRecursion P place.links
+      pub links_of : (P : Link → Type 0) {now : ℕ} {end place : Place} → Walk text level trace given s t now end place → AllByRecursion P end.links → AllByRecursion P place.links
       links_of P stop h = h
       links_of P (pass env nest joins item rest left no_call is_true small placed walk) h = links_of P walk h
       links_of P (replace o rest a from to number clause left item macro named vals whens small walk) h = (links_of P walk h).1

@@ -35,7 +35,7 @@ all_self : {X A : Type 0} (f : X → A) (xs : List X) → AllByRecursion (λ x. 
 all_self f [] = tt
 all_self f (x ∷ xs) = (refl, all_self f xs)
 
-map_two : {X Y Z : Type 0} (f : Y → Z) (g : X → Y) (xs : List X) → map f (map g xs) ≡ map (λ x. f (g x)) xs
+pub map_two : {X Y Z : Type 0} (f : Y → Z) (g : X → Y) (xs : List X) → map f (map g xs) ≡ map (λ x. f (g x)) xs
 map_two f g [] = refl
 map_two f g (x ∷ xs) = ap (λ ys. f (g x) ∷ ys) (map_two f g xs)
 
@@ -50,7 +50,7 @@ becomes : (x : ℕ → When) (time : When) (n : ℕ) → put_when x time ≡ Kno
 becomes x (Known m) n e = ap number_in e
 becomes x (Unknown k) n e = ap number_in e
 
-abbrev first_time : When → List Left → When
+abbrev pub first_time : When → List Left → When
 first_time d [] = d
 first_time d (left ∷ rest) = of_item left.item
   where
@@ -59,7 +59,7 @@ first_time d (left ∷ rest) = of_item left.item
     of_item (l.Span a from to) = from
     of_item _ = Known 0
 
-abbrev second_time : When → List Left → When
+abbrev pub second_time : When → List Left → When
 second_time d [] = d
 second_time d (left ∷ rest) = of_item left.item
   where
@@ -159,7 +159,7 @@ small_lefts v x (left ∷ lefts) h = (small_before v x left.item h.0, small_left
 
 -- ---- entries
 
-each_same : (u s : Values) (w z : Whens) (es : List Entry) → flat_map (left_at u w) es ≡ flat_map (left_at s z) es → AllByRecursion (λ e. left_at u w e ≡ left_at s z e) es
+pub each_same : (u s : Values) (w z : Whens) (es : List Entry) → flat_map (left_at u w) es ≡ flat_map (left_at s z) es → AllByRecursion (λ e. left_at u w e ≡ left_at s z e) es
 each_same u s w z [] e = tt
 each_same u s w z (o ∷ es) e =
     let q = front_same (u o.env) (s o.env) (w o.env) (z o.env) o.nest o.item (flat_map (left_at u w) es) (flat_map (left_at s z) es) e in
@@ -179,21 +179,21 @@ lefts_small u w [] h = tt
 lefts_small u w (e ∷ es) h = all_joined (λ left. IsLeftSmall left.item) (left_at u w e) (flat_map (left_at u w) es) h.0 (lefts_small u w es h.1)
 
 -- an item of an instance, as an item left
-abbrev left_from : (ℕ → When) → ℕ → Item → List Left
+abbrev pub left_from : (ℕ → When) → ℕ → Item → List Left
 left_from z nest (i.At lit time) = record { item = l.At lit (z time.0); nest = nest } ∷ []
 left_from z nest (i.Bare lit) = record { item = l.Bare lit; nest = nest } ∷ []
 left_from z nest (i.Built built) = record { item = l.Built built; nest = nest } ∷ []
 left_from z nest (i.Span a from to) = record { item = l.Span a (z from.0) (z to.0); nest = nest } ∷ []
 left_from z nest (i.Con con) = []
 
-left_is : (s : ℕ → Term) (z : ℕ → When) (nest : ℕ) (item : Item) → left_of s z nest item ≡ left_from z nest (put_item s item)
+pub left_is : (s : ℕ → Term) (z : ℕ → When) (nest : ℕ) (item : Item) → left_of s z nest item ≡ left_from z nest (put_item s item)
 left_is s z nest (i.At lit time) = refl
 left_is s z nest (i.Bare lit) = refl
 left_is s z nest (i.Built built) = refl
 left_is s z nest (i.Span a from to) = refl
 left_is s z nest (i.Con con) = refl
 
-item_same : (u s : ℕ → Term) (w z : ℕ → When) (nest : ℕ) (item : Item) → left_of u w nest item ≡ left_of s z nest item → put_item u item ≡ put_item s item
+pub item_same : (u s : ℕ → Term) (w z : ℕ → When) (nest : ℕ) (item : Item) → left_of u w nest item ≡ left_of s z nest item → put_item u item ≡ put_item s item
 item_same u s w z nest (i.At lit time) e = ap (λ ls. i.At (lit_in (put_lit u lit) (item_in (l.At (put_lit u lit) (w time.0)) ls)) time) e
 item_same u s w z nest (i.Bare lit) e = ap (λ ls. i.Bare (lit_in (put_lit u lit) (item_in (l.Bare (put_lit u lit)) ls))) e
 item_same u s w z nest (i.Built c) e = ap (λ ls. i.Built (built_in (put_built u c) (item_in (l.Built (put_built u c)) ls))) e
@@ -201,7 +201,7 @@ item_same u s w z nest (i.Span a from to) e = ap (λ ls. i.Span (atom_in (put_at
 item_same u s w z nest (i.Con con) e = refl
 
 -- what was passed is the same with the times that x gives to what is known
-past_same : (y : ℕ → ℕ) (u s : ℕ → Term) (w : ℕ → When) (t : ℕ → ℕ) (nest : ℕ) (item : Item) → left_of u w nest item ≡ left_of s (λ v. Known (t v)) nest item →
+pub past_same : (y : ℕ → ℕ) (u s : ℕ → Term) (w : ℕ → When) (t : ℕ → ℕ) (nest : ℕ) (item : Item) → left_of u w nest item ≡ left_of s (λ v. Known (t v)) nest item →
     left_of s (λ v. Known (t v)) nest item ≡ left_of s (λ v. Known (time_in y (w v))) nest item
 past_same y u s w t nest (i.At lit time) e = ap (λ k. record { item = l.At (put_lit s lit) (Known (time_in y k)); nest = nest } ∷ []) (sym (ap (first_time (Known 0)) e))
 past_same y u s w t nest (i.Span a from to) e =
@@ -235,15 +235,15 @@ all_swap : {A X : Type 0} (P : A → X → Type 0) (xs : List X) → ((a : A) �
 all_swap P [] h = tt
 all_swap P (x ∷ xs) h = ((λ a. (h a).0), all_swap P xs (λ a. (h a).1))
 
-all_two : {X : Type 0} (P Q R : X → Type 0) → ((z : X) → P z → Q z → R z) → (zs : List X) → AllByRecursion P zs → AllByRecursion Q zs → AllByRecursion R zs
+pub all_two : {X : Type 0} (P Q R : X → Type 0) → ((z : X) → P z → Q z → R z) → (zs : List X) → AllByRecursion P zs → AllByRecursion Q zs → AllByRecursion R zs
 all_two P Q R c [] p q = tt
 all_two P Q R c (z ∷ zs) p q = (c z p.0 q.0, all_two P Q R c zs p.1 q.1)
 
 -- an entry without its mark
-abbrev plain : Entry → Entry
+abbrev pub plain : Entry → Entry
 plain e = record { env = e.env; nest = e.nest; joins = false; item = e.item }
 
-marked_behind : (text : Text) (e : Entry) (es : List Entry) → AreMarked text (Some e) es → AreMarked text (Some (plain e)) es
+pub marked_behind : (text : Text) (e : Entry) (es : List Entry) → AreMarked text (Some e) es → AreMarked text (Some (plain e)) es
 marked_behind text e [] h = tt
 marked_behind text e (o ∷ es) h = (
   (λ is. let m = h.0 is in
@@ -401,8 +401,8 @@ module _ (text : Text) (level : List ℕ → ℕ) (trace : Trace) (q : Sequence)
             small = all_small;
           })
 
-    module _ (next : Entry) (rest : List Entry) (is_next : end.left ≡ next ∷ rest) (step : is_step next.item ≡ true) (shows : ShowGroups text u w None end.left) (can : CanComeTrue text now g) where
-      abbrev other : Times
+    module _ (next : Entry) (rest : List Entry) (is_next : end.left ≡ next ∷ rest) (step : is_step next.item ≡ true) (can : CanComeTrue text now g) where
+      abbrev pub other : Times
       other env v = time_in can.times (w env v)
 
       given_same : map (other 0) q.given_times ≡ map (t 0) q.given_times
@@ -416,7 +416,7 @@ module _ (text : Text) (level : List ℕ → ℕ) (trace : Trace) (q : Sequence)
       whens_moved : AllByRecursion (HasSameTimes other) end.links
       whens_moved = all_to (HasSameWhens w) (HasSameTimes other) (λ link h. (ap (time_in can.times) h.0, ap (time_in can.times) h.1)) end.links is.possible.when_links
 
-      walk_moved : Walk text level trace q.given_values s other now end (start text since q.items)
+      pub walk_moved : Walk text level trace q.given_values s other now end (start text since q.items)
       walk_moved = moved s s t other text level trace q.given_values refl walk past_moved links.0 whens_moved
 
       own_rest : g.rest ≡ flat_map (left_at u w) end.left
@@ -428,19 +428,9 @@ module _ (text : Text) (level : List ℕ → ℕ) (trace : Trace) (q : Sequence)
       next_rest : g.rest ≡ flat_map (left_at u w) (next ∷ rest)
       next_rest = own_rest ∙ ap (flat_map (left_at u w)) is_next
 
-      ahead : IsAhead now (other next.env) next.item
+      pub ahead : IsAhead now (other next.env) next.item
       ahead = first_back text u w other can.times now next.env next.nest next.item can.first (flat_map (left_at u w) rest) can.behind (sym next_rest ∙ can.is_first) step can.ahead
           (times_own can.times w (next ∷ [])).0
-
-      in_order : AreInOrder text other end.before (next ∷ rest)
-      in_order =
-          let shown : ShowGroups text u w None (next ∷ rest) = subst (ShowGroups text u w None) is_next shows in
-          let h = order_back text u w other can.times now None (next ∷ rest) (times_own can.times w (next ∷ rest)) shown (subst (AreLeftInOrder text can.times now None) next_rest can.in_order) in
-          let bare : next.joins ≡ false = first_plain text next.joins (u next.env) (w next.env) next.nest next.item step shown.0 in (
-            placed_first text u w other can.times end.before now next next.item (ended text level trace q.given_values s t walk low) bare step ahead
-                (subst (λ joins. IsPlaced text (other next.env) now joins next.item) bare h.0),
-            subst (λ b. AreInOrder text other b rest) (end_of_step text u w other can.times now end.before next.env next.item step) h.1,
-          )
 
       limits_hold : AreLimits other q.items end.links
       limits_hold =
@@ -461,20 +451,31 @@ module _ (text : Text) (level : List ℕ → ℕ) (trace : Trace) (q : Sequence)
       small = all_to (λ e. IsSmallItem (put_item (u e.env) e.item)) (IsSmallSoFar q.given_values s end) (λ e h. record { other = u; alike = alike; small = h }) end.left
           (items_small u w end.left (subst (AllByRecursion (λ left. IsLeftSmall left.item)) own_rest can.small))
 
-      pub has_plan : (z : Times) × (map (z 0) q.given_times ≡ map (t 0) q.given_times) × Walk text level trace q.given_values s z now end (start text since q.items)
-          × CanGoOn text q.given_values s z now q.items end
-      has_plan = (
-        other,
-        given_same,
-        walk_moved,
-        record {
-          next = next;
-          rest = rest;
-          is_next = is_next;
-          step = step;
-          ahead = ahead;
-          in_order = subst (AreInOrder text other end.before) (sym is_next) in_order;
-          limits = limits_hold;
-          small = small;
-        },
-      )
+      module _ (shows : ShowGroups text u w None end.left) where
+        in_order : AreInOrder text other end.before (next ∷ rest)
+        in_order =
+            let shown : ShowGroups text u w None (next ∷ rest) = subst (ShowGroups text u w None) is_next shows in
+            let h = order_back text u w other can.times now None (next ∷ rest) (times_own can.times w (next ∷ rest)) shown (subst (AreLeftInOrder text can.times now None) next_rest can.in_order) in
+            let bare : next.joins ≡ false = first_plain text next.joins (u next.env) (w next.env) next.nest next.item step shown.0 in (
+              placed_first text u w other can.times end.before now next next.item (ended text level trace q.given_values s t walk low) bare step ahead
+                  (subst (λ joins. IsPlaced text (other next.env) now joins next.item) bare h.0),
+              subst (λ b. AreInOrder text other b rest) (end_of_step text u w other can.times now end.before next.env next.item step) h.1,
+            )
+
+        pub has_plan : (z : Times) × (map (z 0) q.given_times ≡ map (t 0) q.given_times) × Walk text level trace q.given_values s z now end (start text since q.items)
+            × CanGoOn text q.given_values s z now q.items end
+        has_plan = (
+          other,
+          given_same,
+          walk_moved,
+          record {
+            next = next;
+            rest = rest;
+            is_next = is_next;
+            step = step;
+            ahead = ahead;
+            in_order = subst (AreInOrder text other end.before) (sym is_next) in_order;
+            limits = limits_hold;
+            small = small;
+          },
+        )

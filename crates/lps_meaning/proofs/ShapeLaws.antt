@@ -201,7 +201,7 @@ module _ (text : Text) (seq : Sequence) (s : Values) (t : Times) (ground : AreGr
       ∙ ap (λ f. left_of f (λ n. Known (t o.env n)) o.nest o.item) (same_ground v o.env)
 
   -- what is possible stays so under a substitution
-  closed : (place : Place) (u : Values) (w : Whens) (v : ℕ → Term) (x : ℕ → When) → Possible place u w →
+  pub closed : (place : Place) (u : Values) (w : Whens) (v : ℕ → Term) (x : ℕ → When) → Possible place u w →
       Possible place (λ e. after v (u e)) (λ e. after_when x (w e))
   closed place u w v x h = record {
     values = sym (map_two (put v) (u 0) seq.given_values) ∙ ap (map (put v)) h.values ∙ map_two (put v) (s 0) seq.given_values ∙ ap (λ f. map f seq.given_values) (same_ground v 0);
@@ -344,10 +344,10 @@ module _ (text : Text) (seq : Sequence) (s : Values) (t : Times) (ground : AreGr
       abbrev n : ℕ
       n = place.next
 
-      abbrev u2 : Values
+      abbrev pub u2 : Values
       u2 = upd n f u
 
-      abbrev w2 : Whens
+      abbrev pub w2 : Whens
       w2 = upd n g w
 
       become_upd : (q : Entry) → q.env < n → become u2 w2 q ≡ become u w q
@@ -374,7 +374,7 @@ module _ (text : Text) (seq : Sequence) (s : Values) (t : Times) (ground : AreGr
       }
 
       -- what a call unfolds to is possible beyond it
-      reached : (k : Shape) → Possible place u w → Unfolds text clause f g (shape_at place u w) k → Possible beyond u2 w2 × (shape_at beyond u2 w2 ≡ k)
+      pub reached : (k : Shape) → Possible place u w → Unfolds text clause f g (shape_at place u w) k → Possible beyond u2 w2 × (shape_at beyond u2 w2 ≡ k)
       unfolding unfolds
       reached k h is =
           let low : AllByRecursion (λ q. q.env < n) (o ∷ rest) = subst (λ l. AllByRecursion (λ q. q.env < n) l) left fresh.left in

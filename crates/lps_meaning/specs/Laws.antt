@@ -1,34 +1,43 @@
 -- The laws of the definitions, each a statement over texts, traces and keys.
-use Rattle.std.specs.Prelude.{◌≡◌, ◌⊎◌, ◌↔◌, ◌≤◌, ◌++◌, ℕ, suc, IsTrue, List, length, Option, Some, Contains, true, None, ◌∷◌, map}
+use Rattle.std.specs.Prelude.{◌≡◌, ◌⊎◌, ◌↔◌, ◌≤◌, ◌++◌, ℕ, suc, IsTrue, List, length, Option, Some, Contains, true, false, None, ◌∷◌, map}
 use Rattle.std.specs.List.{AllByRecursion}
 use Rattle.lps_terms.specs.declared.atom.Atom.{Atom}
+use Rattle.lps_terms.specs.declared.item.Item.{Item}
+use Rattle.lps_terms.specs.declared.item.Item.TheVariants as i
 use Rattle.lps_terms.specs.declared.prefer.Prefer.{Prefer}
 use Rattle.lps_terms.specs.Printed.{atom_text}
 use Rattle.lps_terms.specs.declared.term.Term.{Term}
 use Rattle.lps_terms.specs.declared.text.Text.{Text}
+use Rattle.lps_terms.specs.declared.time_var.TimeVar.{TimeVar}
 use Rattle.lps_model.specs.declared.cycle.Cycle.{Cycle}
 use Rattle.lps_model.specs.declared.trace.Trace.{Trace}
 use Rattle.lps_model.specs.Formed.{is_formed}
 use Rattle.lps_model.specs.Acceptance.{IsAccepted}
 use Rattle.lps_derivation.specs.Clauses.{clauses}
+use Rattle.lps_derivation.specs.Ground.{is_ground}
 use Rattle.lps_derivation.specs.Levels.{AreLevels}
 use Rattle.lps_meaning.specs.declared.goal.Closed.{Closed}
 use Rattle.lps_meaning.specs.declared.goal.Closed.TheVariants as c
 use Rattle.lps_meaning.specs.declared.goal.Counts.{Counts}
 use Rattle.lps_meaning.specs.declared.goal.GoalKey.{GoalKey}
 use Rattle.lps_meaning.specs.Holds.{Persists, Holds, Initiated, Terminated, Ends, IsTrueAt}
+use Rattle.lps_meaning.specs.declared.node.Left.{Left}
 use Rattle.lps_meaning.specs.declared.node.Node.{Node}
 use Rattle.lps_meaning.specs.declared.when.When.{When}
-use Rattle.lps_meaning.specs.Conditions.{CanComeTrue, ShowGroups}
+use Rattle.lps_meaning.specs.declared.when.When.TheVariants.{Known}
+use Rattle.lps_meaning.specs.Alone.{Alone, Standing}
+use Rattle.lps_meaning.specs.Conditions.{CanComeTrue, IsLeftSmall, ShowGroups}
 use Rattle.lps_meaning.specs.Cycles.{AreGoals, IsRun}
 use Rattle.lps_meaning.specs.Goals.{IsClosed, HasStatus, IsMet, IsMetWithin, IsRuleTrue, AreGround, CanGoOn}
+use Rattle.lps_meaning.specs.Items.{IsSmallItem, put_item}
+use Rattle.lps_meaning.specs.Integers.{AreTimesLeft, CanComeTrueIn}
 use Rattle.lps_meaning.specs.Nodes.{IsResidual}
 use Rattle.lps_meaning.specs.Plain.{IsPlainRun}
-use Rattle.lps_meaning.specs.Reports.{Block, IsBlockOf, IsBlock, IsReport, IsGroundAtom, IsGroundBlock, IsGroundCycle, IsSmallCycle, block_text, AreCounts}
-use Rattle.lps_meaning.specs.Rules.{AreFramed, numbered}
-use Rattle.lps_meaning.specs.Sequences.{Entry, is_step, Place, Values, Times, Walk, start}
-use Rattle.lps_meaning.specs.Shapes.{Sequence, Shape, IsGeneral, put_shape}
-use Rattle.lps_meaning.specs.Steps.{Chain}
+use Rattle.lps_meaning.specs.Reports.{AreBlocks, Block, IsBlockOf, IsBlock, IsReport, IsGroundAtom, IsGroundBlock, IsGroundCycle, IsSmallCycle, block_text, AreCounts}
+use Rattle.lps_meaning.specs.Rules.{AreFramed, MacroClause, Rule, clauses_of, is_macro, kind_of, numbered, rules}
+use Rattle.lps_meaning.specs.Sequences.{Entry, is_call, is_step, IsPlaced, IsTrueItem, link_at, passed, Place, replaced, Values, Times, Walk, start}
+use Rattle.lps_meaning.specs.Shapes.{Sequence, Shape, IsGeneral, alternative_of, antecedent_of, left_of, put_shape}
+use Rattle.lps_meaning.specs.Steps.{Chain, PassesTo, UnfoldsTo}
 
 -- ---- states
 
@@ -168,6 +177,22 @@ abbrev pub RunsAreGround : Type 0
 RunsAreGround = (text : Text) (level : List ℕ → ℕ) (depth : ℕ) (trace : Trace) → IsTrue (is_formed text) → IsRun text level depth trace →
     AllByRecursion IsSmallCycle trace.cycles → AllByRecursion IsGroundCycle trace.cycles
 
+-- all that is reported of the cycles of a trace is ground
+abbrev pub IsGroundReport : Text → (List ℕ → ℕ) → ℕ → Trace → Type 0
+IsGroundReport text level depth trace = (k : ℕ) → k ≤ length trace.cycles → (block : Block) → IsBlockOf text level depth trace k block → IsGroundBlock block
+
+-- two runs with the same bytes of all their blocks, one after the other, are one, where what is reported of them is ground
+abbrev pub AllBytesTellRuns : Type 0
+AllBytesTellRuns = (text : Text) (level : List ℕ → ℕ) (depth : ℕ) (trace other : Trace) → IsRun text level depth trace → IsRun text level depth other →
+    IsGroundReport text level depth trace → IsGroundReport text level depth other → (bytes : List ℕ) →
+    AreBlocks text level depth trace 0 (suc (length trace.cycles)) bytes → AreBlocks text level depth other 0 (suc (length other.cycles)) bytes → trace ≡ other
+
+-- and so are two runs with the same bytes of the whole report
+abbrev pub ReportsTellRuns : Type 0
+ReportsTellRuns = (text : Text) (level : List ℕ → ℕ) (depth : ℕ) (trace other : Trace) → IsRun text level depth trace → IsRun text level depth other →
+    IsGroundReport text level depth trace → IsGroundReport text level depth other → (bytes : List ℕ) →
+    IsReport text level depth trace 0 bytes → IsReport text level depth other 0 bytes → trace ≡ other
+
 -- ---- nodes
 
 -- single steps along a walk lead from the most general shape of its start to that of its end
@@ -201,12 +226,16 @@ PlansCanComeTrue = (text : Text) (level : List ℕ → ℕ) (trace : Trace) (q :
     Walk text level trace q.given_values s t now end (start text since q.items) → (g : Shape) → IsGeneral q s t end g →
     CanGoOn text q.given_values s t now q.items end → CanComeTrue text now g
 
--- Where it can come true by itself, and its groups can be told from the items left, a plan can go on at the place: one that passed the
--- same, with other times for what is to come.
+-- the sequence is the antecedent or an alternative of a rule of the text
+abbrev pub IsOfText : Text → Sequence → Type 0
+IsOfText text q = (rule : Rule) × Contains (rules text) rule × ((q ≡ antecedent_of rule) ⊎ ((items : List Item) × Contains rule.alternatives items × (q ≡ alternative_of rule items)))
+
+-- Where it can come true by itself, in a sequence of an accepted text, a plan can go on at the place: one that passed the same, with
+-- other times for what is to come.
 abbrev pub WhatCanComeTrueHasPlans : Type 0
-WhatCanComeTrueHasPlans = (text : Text) (level : List ℕ → ℕ) (trace : Trace) (q : Sequence) (s : Values) (t : Times) → AreGround s → (since now : ℕ) → since ≤ now → (end : Place) →
-    Walk text level trace q.given_values s t now end (start text since q.items) → (g : Shape) (is : IsGeneral q s t end g) →
-    (next : Entry) (rest : List Entry) → end.left ≡ next ∷ rest → is_step next.item ≡ true → ShowGroups text is.values is.whens None end.left → CanComeTrue text now g →
+WhatCanComeTrueHasPlans = (text : Text) → IsAccepted text → (level : List ℕ → ℕ) (trace : Trace) (q : Sequence) → IsOfText text q → (s : Values) (t : Times) → AreGround s →
+    (since now : ℕ) → since ≤ now → (end : Place) → Walk text level trace q.given_values s t now end (start text since q.items) → (g : Shape) → IsGeneral q s t end g →
+    (next : Entry) (rest : List Entry) → end.left ≡ next ∷ rest → is_step next.item ≡ true → CanComeTrue text now g →
     (other : Times) × (map (other 0) q.given_times ≡ map (t 0) q.given_times) × Walk text level trace q.given_values s other now end (start text since q.items)
     × CanGoOn text q.given_values s other now q.items end
 
@@ -215,6 +244,52 @@ abbrev pub PlansShowGroups : Type 0
 PlansShowGroups = (text : Text) (level : List ℕ → ℕ) (trace : Trace) (q : Sequence) (s : Values) (t : Times) → AreGround s → (since now : ℕ) → since ≤ now → (end : Place) →
     Walk text level trace q.given_values s t now end (start text since q.items) → (g : Shape) (is : IsGeneral q s t end g) →
     CanGoOn text q.given_values s t now q.items end → ShowGroups text is.values is.whens None end.left
+
+-- A walk of the sequence by now to a place that may depend on its times, under values and times that are those of another where they are
+-- given; and this is the most general of what is left there.
+pub record IsWalked (text : Text) (level : List ℕ → ℕ) (trace : Trace) (q : Sequence) (s : Values) (t : Times) (since now : ℕ) (place : Times → Place) (h : Shape) : Type 0 where
+  pub values : Values
+  pub times : Times
+  pub ground : AreGround values
+  pub same_values : map (values 0) q.given_values ≡ map (s 0) q.given_values
+  pub same_times : map (times 0) q.given_times ≡ map (t 0) q.given_times
+  pub walk : Walk text level trace q.given_values values times now (place times) (start text since q.items)
+  pub general : IsGeneral q values times (place times) h
+
+-- A step that is made on a shape alone is one of a walk: where some ground values and some times make the first entry left true, and the
+-- most general shape passes to another by that, a walk passes the entry, and the other shape is the most general behind it.
+abbrev pub PassesAreWalked : Type 0
+PassesAreWalked = (text : Text) → IsTrue (is_formed text) → (level : List ℕ → ℕ) (trace : Trace) (q : Sequence) → IsOfText text q → (s : Values) (t : Times) → AreGround s →
+    (since now later : ℕ) → now ≤ later → (end : Place) → Walk text level trace q.given_values s t now end (start text since q.items) → (g : Shape) → IsGeneral q s t end g →
+    (next : Entry) (rest : List Entry) → end.left ≡ next ∷ rest → is_call text next.item ≡ false → (f : ℕ → Term) (c : ℕ → ℕ) → ((v : ℕ) → IsTrue (is_ground (f v))) →
+    IsTrueItem text level trace later c (put_item f next.item) → IsSmallItem (put_item f next.item) → IsPlaced text c end.before next.joins next.item →
+    (h : Shape) → PassesTo (left_of f (λ v. Known (c v)) next.nest next.item) g h → IsWalked text level trace q s t since later (λ times. passed times end next rest) h
+
+-- And so is a call that is unfolded on a shape alone: where the call is small, a walk puts the body in its place.
+abbrev pub UnfoldingsAreWalked : Type 0
+UnfoldingsAreWalked = (text : Text) → IsTrue (is_formed text) → (level : List ℕ → ℕ) (trace : Trace) (q : Sequence) → IsOfText text q → (s : Values) (t : Times) → AreGround s →
+    (since now later : ℕ) → now ≤ later → (end : Place) → Walk text level trace q.given_values s t now end (start text since q.items) → (g : Shape) → IsGeneral q s t end g →
+    (next : Entry) (rest : List Entry) → end.left ≡ next ∷ rest → (a : Atom) (from to : TimeVar) → next.item ≡ i.Span a from to → is_macro (kind_of text a.name) ≡ true →
+    (number : ℕ) (clause : MacroClause) → numbered (clauses_of text a.name) number ≡ Some clause →
+    (first : Left) (behind : List Left) → g.rest ≡ first ∷ behind → IsLeftSmall first.item → (h : Shape) → UnfoldsTo text clause g h →
+    IsWalked text level trace q s t since later (λ times. replaced text end (link_at end next a from.0 to.0 number clause) rest) h
+
+-- So steps that are made at one time on a shape alone, from the most general one of a place in an accepted text, are those of a walk.
+abbrev pub StepsAloneAreWalked : Type 0
+StepsAloneAreWalked = (text : Text) → IsAccepted text → IsTrue (is_formed text) → (level : List ℕ → ℕ) (trace : Trace) (q : Sequence) → IsOfText text q → (s : Values) (t : Times) → AreGround s →
+    (since now later : ℕ) → since ≤ now → now ≤ later → (place : Place) → Walk text level trace q.given_values s t now place (start text since q.items) → (g : Shape) → IsGeneral q s t place g →
+    (end : Standing) → Alone text level trace later end (record { before = now; last = None; shape = g }) →
+    (beyond : Place) × IsWalked text level trace q s t since later (λ times. beyond) end.shape
+
+-- Where each unknown time of its constraints stands in an item left, a shape can come true with some integers for the unknown times
+-- exactly where it can with natural numbers.
+abbrev pub IntegersServe : Type 0
+IntegersServe = (text : Text) (now : ℕ) (g : Shape) → AreTimesLeft g → CanComeTrue text now g ↔ CanComeTrueIn text now g
+
+-- That holds of the most general shapes of accepted texts.
+abbrev pub TimesAreLeft : Type 0
+TimesAreLeft = (text : Text) → IsAccepted text → (level : List ℕ → ℕ) (trace : Trace) (q : Sequence) → IsOfText text q → (s : Values) (t : Times) → AreGround s → (since now : ℕ) (end : Place) →
+    Walk text level trace q.given_values s t now end (start text since q.items) → (g : Shape) → IsGeneral q s t end g → AreTimesLeft g
 
 -- So a plan that waits goes on for as long as what is left can come true by itself.
 abbrev pub WaitingPlansGoOn : Type 0

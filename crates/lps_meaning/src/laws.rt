@@ -2,7 +2,7 @@
 
 ghost use Rattle.lps_model.specs.Acceptance.{IsAccepted};
 ghost use Rattle.lps_meaning.specs.Examples.{BegunAnewExample, DeadlineExample, DepthExample, FireExample, InitiationWinsExample, NestingExample, NodeExample, OldStateExample, OneAfterOtherExample, OneGoalExample, OneOrderExample, OtherAlternativeExample, ParcelOfficeExample, RejectExample, WaitingExample};
-ghost use Rattle.lps_meaning.specs.Laws.{AcceptedAreFramed, AtomsAreTold, BlocksAreUnique, BlocksStay, BlocksTellRuns, BytesTellBlocks, BytesTellRuns, CutIsForever, DecidedUpdateLaw, FailedIsForever, GeneralAreVariants, GeneralIsReached, GoalsAreUnique, HoldsIsPersistence, LevelsDoNotMatter, NumbersStay, PlainRunsAreRuns, PlainRunsAreUnique, PlansCanComeTrue, PlansShowGroups, ReportsAreUnique, ResidualsAreUnique, RulesAreTrue, RunsAreGround, StartIsGeneral, StartLaw, StatusStays, StatusesAreUnique, StepsAreGeneral, UpdateLaw, WaitingPlansGoOn, WhatCanComeTrueHasPlans};
+ghost use Rattle.lps_meaning.specs.Laws.{AcceptedAreFramed, AllBytesTellRuns, AtomsAreTold, BlocksAreUnique, BlocksStay, BlocksTellRuns, BytesTellBlocks, BytesTellRuns, CutIsForever, DecidedUpdateLaw, FailedIsForever, GeneralAreVariants, GeneralIsReached, GoalsAreUnique, HoldsIsPersistence, IntegersServe, LevelsDoNotMatter, NumbersStay, PassesAreWalked, PlainRunsAreRuns, PlainRunsAreUnique, PlansCanComeTrue, PlansShowGroups, ReportsAreUnique, ReportsTellRuns, ResidualsAreUnique, RulesAreTrue, RunsAreGround, StartIsGeneral, StartLaw, StatusStays, StatusesAreUnique, StepsAloneAreWalked, StepsAreGeneral, TimesAreLeft, UnfoldingsAreWalked, UpdateLaw, WaitingPlansGoOn, WhatCanComeTrueHasPlans};
 
 /// A fluent holds in a state exactly where it began by then and did not end since. So state i+1 is state i without
 /// the fluents that are terminated in cycle i+1, together with those that are initiated there; state 0 has the
@@ -24,9 +24,9 @@ pub fn frame_law()
     ensures { AcceptedAreFramed }
 {}
 
-/// A goal that is closed stays closed so, in every continuation of the trace. After Failed no alternative becomes
-/// true at any nesting; after Cut none does by calls that nest at most the depth. All this holds for accepted texts,
-/// of which it needs no more than `frame_law` says.
+/// A goal has one status at a time. In an accepted text a goal that is closed stays closed so, in every continuation of
+/// the trace; after Failed no alternative becomes true at any nesting; after Cut none does by calls that nest at most
+/// the depth. Of acceptance this needs no more than `frame_law` says.
 pub fn status_law()
     ensures unique { StatusesAreUnique }
     ensures stays { StatusStays IsAccepted }
@@ -53,8 +53,9 @@ pub fn plain_law()
 
 /// The block of a cycle depends on the cycles up to it alone. A cycle has one block, a trace has one report, and
 /// what is reported of all cycles tells the run. Ground atoms are told by their texts, and ground blocks by their
-/// bytes; so two runs of as many ground cycles, with blocks of the same bytes, are one. The cycles of a run of a
-/// well-formed text are ground, as long as their numbers have 64 bits.
+/// bytes; so two runs of as many ground cycles, with blocks of the same bytes, are one. Ground blocks that stand one after
+/// the other can be told apart, so two runs are one that have the same bytes of all blocks, or the same report. The
+/// cycles of a run of a well-formed text are ground, as long as their numbers have 64 bits.
 pub fn report_law()
     ensures blocks_stay { BlocksStay }
     ensures blocks { BlocksAreUnique }
@@ -63,22 +64,32 @@ pub fn report_law()
     ensures atoms { AtomsAreTold }
     ensures block_bytes { BytesTellBlocks }
     ensures bytes { BytesTellRuns }
+    ensures report_bytes { AllBytesTellRuns }
+    ensures whole_report { ReportsTellRuns }
     ensures ground { RunsAreGround }
 {}
 
-/// What is left of a sequence: each place of a walk has a most general shape, which single steps reach and lead to;
-/// such shapes are instances of each other, so a place has one residual. Its time conditions have a solution exactly where a plan can
-/// go on there, as long as its groups can be told from what is left; those of a plan can.
+/// What is left of a sequence: each place of a walk has a most general shape, which single steps reach and lead to. In a
+/// well-formed text a step that is made on such a shape alone is one of a walk, and in an accepted one so are steps that
+/// are made on it at one time. Such shapes are instances of each other, so a place has one residual. In an accepted text
+/// its time conditions have a solution exactly where a plan can go on there. The groups of such a plan can be told from
+/// what is left. A solution in integers serves as well as one in natural numbers, as long as each unknown time stands in
+/// an item left, as it does in an accepted text.
 pub fn node_law()
     ensures starts { StartIsGeneral }
     ensures steps { StepsAreGeneral }
     ensures reached { GeneralIsReached }
+    ensures passes { PassesAreWalked }
+    ensures unfoldings { UnfoldingsAreWalked }
+    ensures alone { StepsAloneAreWalked }
     ensures variants { GeneralAreVariants }
     ensures unique { ResidualsAreUnique }
     ensures plans { PlansCanComeTrue }
     ensures has_plans { WhatCanComeTrueHasPlans }
     ensures show { PlansShowGroups }
     ensures waiting { WaitingPlansGoOn }
+    ensures integers { IntegersServe }
+    ensures times_left { TimesAreLeft }
 {}
 
 /// Small texts with traces. States and denials: what is initiated and terminated at once, conditions read in the state

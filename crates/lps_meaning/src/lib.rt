@@ -3,15 +3,18 @@
 //!
 //! It stands on the data of texts and traces and on truth by derivation, and never knows of states that change, of
 //! trails or of what is carried from cycle to cycle: each definition speaks of a whole trace. It carries the law of
-//! states, and the law that a status other than pending stays in every continuation, each as the contract of a
-//! function over the definitions alone. Its types are those that goals are pursued with.
+//! states, and the law that a status other than pending stays in every continuation for texts that are accepted, each
+//! as the contract of a function over the definitions alone. Its types are those that goals are pursued with, and it
+//! copies them.
 #![tactic(auto)]
 
+mod copy;
 mod goal;
 mod laws;
 mod node;
 mod when;
 
+pub use copy::{copy_cycle, copy_key, copy_node};
 pub use goal::{Closed, Counts, GoalId, GoalKey, NewGoal};
 pub use laws::{
     example_law, frame_law, goal_law, level_law, node_law, plain_law, report_law, rule_law,

@@ -58,7 +58,8 @@ pub fn copy_item(alloc: Global, item: &Item) -> Result<Item, AllocError>
     }
 }
 
-fn copy_lit(alloc: Global, lit: &Lit) -> Result<Lit, AllocError>
+/// A literal equal to this one.
+pub fn copy_lit(alloc: Global, lit: &Lit) -> Result<Lit, AllocError>
     ensures { IfOk result (λ copy. copy ≡ lit.now) }
 {
     let atom = copy_atom(alloc, &lit.atom)?;
@@ -68,7 +69,8 @@ fn copy_lit(alloc: Global, lit: &Lit) -> Result<Lit, AllocError>
     })
 }
 
-fn copy_built(alloc: Global, built: &Built) -> Result<Built, AllocError>
+/// A built-in condition equal to this one.
+pub fn copy_built(alloc: Global, built: &Built) -> Result<Built, AllocError>
     ensures { IfOk result (λ copy. copy ≡ built.now) }
 {
     match built {
