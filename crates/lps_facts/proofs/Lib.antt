@@ -4,3 +4,4 @@ pub mod Trails
 pub mod Sequences
 pub mod Matches
 pub mod Selections
+pub mod Beginnings

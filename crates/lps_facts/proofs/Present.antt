@@ -99,6 +99,20 @@ present_same fact old new sorted_old sorted_new written absent =
     nothing None h = refl
     nothing (Some here) h = absurd cc
 
+found_none : (tied : Bool) (other : Option Bool) → found (cond tied None other) ≡ cond tied false (found other)
+found_none true other = refl
+found_none false other = refl
+
+-- an entry that is not present can go
+pub present_without : (fact : Atom) (old new : List (Atom × Bool)) → IsStrictlySortedBy atom_cmp (keys_of old) → IsStrictlySortedBy atom_cmp (keys_of new) →
+    ((q : Atom) → entry_of new q ≡ cond (atom_eq fact q) None (entry_of old q)) → is_among (present old) fact ≡ false → present new ≡ present old
+present_without fact old new sorted_old sorted_new written absent =
+    same_members _ _ (present_sorted new sorted_new) (present_sorted old sorted_old)
+    (λ q.
+    sym (found_present new sorted_new q) ∙ ap found (written q) ∙ found_none (atom_eq fact q) (entry_of old q)
+    ∙ ap (cond (atom_eq fact q) false) (found_present old sorted_old q)
+    ∙ nothing_out (atom_eq fact q) (is_among (present old) q) (λ tied. ap (is_among (present old)) (sym ((atom_eq-decides fact q).0 tied)) ∙ absent))
+
 known_cond : (tied here : Bool) (other : Option Bool) → is_some other ≡ true → is_some (cond tied (Some here) other) ≡ true
 known_cond true here other h = refl
 known_cond false here other h = h

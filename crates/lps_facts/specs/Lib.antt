@@ -1,3 +1,5 @@
 pub mod Facts
 pub mod Trail
 pub mod Matching
+pub mod Beginning
+pub mod Listed

@@ -1,13 +1,17 @@
-ghost use Rattle.std.specs.Prelude.{◌≡◌, ◌≤◌, ◌<◌, ◌-◌, [], Bool, true, false, not, length, ◌↔◌, IfOk, IsTrue, OnOk, is_ok, if◌then◌else◌};
+ghost use Rattle.std.specs.Prelude.{◌≡◌, ◌≤◌, ◌<◌, ◌-◌, ◌++◌, [], Bool, true, false, not, length, ◌↔◌, IfOk, IsTrue, OnOk, is_ok, if◌then◌else◌};
 ghost use Rattle.std.specs.List.Sorted.{IsStrictlySortedBy};
 ghost use Rattle.lps_terms.specs.Order.{atom_cmp};
 ghost use Rattle.lps_terms.specs.declared.atom.Atom.{Atom};
 ghost use Rattle.lps_facts.specs.Matching.{IsInstance};
+ghost use Rattle.lps_facts.specs.Listed.{listed};
 ghost use Rattle.lps_facts.specs.Facts.{back_to, is_among, members, then_change, will_change, with_effects, with_fact, with_facts, IsLater};
 
 use crate::change::Change;
-use crate::entries::{copy_matching, copy_present, is_present, make_room, set_present};
+use crate::entries::{
+    copy_matching, copy_present, forget_absent, is_present, make_room, set_present,
+};
 use crate::mark::Mark;
+use crate::print::print_present;
 use lps_terms::{Atom, Effects, copy_atom};
 use std::alloc::{AllocError, Global};
 use std::collections::BTreeMap;
@@ -55,6 +59,13 @@ impl Facts {
         ensures found { result ≡ is_among (members self.now) fact.now }
     {
         is_present(&self.entries, fact)
+    }
+
+    /// What holds of every set: its facts are in order, each once.
+    pub fn lawful(&self)
+        ensures { IsStrictlySortedBy atom_cmp (members self.now) }
+    {
+        let _ = &self.trail;
     }
 
     /// This moment, to which `undo_to` leads back.
@@ -165,12 +176,28 @@ impl Facts {
         }
     }
 
+    /// Forgets how the set was before, so that there is nothing to take back: what is in it now is what it begins with. This takes
+    /// no memory, and gives back that of the facts that were taken out.
+    pub fn settle(&mut self)
+        ensures { self.new ≡ record { base = members self.old; changes = [] } }
+    {
+        forget_absent(&mut self.entries, self.trail.as_slice());
+        self.trail.truncate(0);
+    }
+
     /// The facts that are instances of the pattern, in order, each once.
     pub fn matching(&self, alloc: Global, pattern: &Atom) -> Result<Vec<Atom>, AllocError>
         ensures instances { IfOk result (λ found. (fact : Atom) → IsTrue (is_among found.items fact) ↔ (IsTrue (is_among (members self.now) fact) × IsInstance pattern.now fact)) }
         ensures sorted { IfOk result (λ found. IsStrictlySortedBy atom_cmp found.items) }
     {
         copy_matching(alloc, &self.entries, pattern)
+    }
+
+    /// Appends the texts of all facts, in order: the first behind a space, and each later one behind a comma and a space.
+    pub fn print(&self, out: &mut Vec<u8>) -> Result<(), AllocError>
+        ensures { OnOk result (out.new.items ≡ out.old.items ++ listed false (members self.now)) }
+    {
+        print_present(&self.entries, out)
     }
 
     /// All facts, in order.

@@ -5,12 +5,14 @@
 //! at the mark (clause `back`).
 #![tactic(auto)]
 
+mod beginning;
 mod change;
 mod entries;
 mod facts;
 mod laws;
 mod mark;
 mod matching;
+mod print;
 
 pub use change::Change;
 pub use facts::Facts;

@@ -25,7 +25,12 @@ fn fact(alloc: Global, word: &str) -> Result<Atom, Fail> {
 
 /// `q(left, right)`
 fn pair(alloc: Global, left: &str, right: &str) -> Result<Atom, Fail> {
-    let name = Name::new(alloc, b"q")?.ok_or("no name")?;
+    named(alloc, "q", left, right)
+}
+
+/// `name(left, right)`
+fn named(alloc: Global, name: &str, left: &str, right: &str) -> Result<Atom, Fail> {
+    let name = Name::new(alloc, name.as_bytes())?.ok_or("no name")?;
     let left = term(alloc, left)?;
     let right = term(alloc, right)?;
     Ok(Atom {
@@ -49,6 +54,14 @@ fn check_list(rt: &impl Abort, alloc: Global, facts: &[Atom], expected: &str) ->
         print_atom(fact, &mut text)?;
         text.push(b' ')?;
     }
+    assert_eq!(rt; text.as_slice(), expected.as_bytes());
+    Ok(())
+}
+
+/// Checks the facts as they are printed.
+fn check_print(rt: &impl Abort, alloc: Global, facts: &Facts, expected: &str) -> Result<(), Fail> {
+    let mut text = Vec::new(alloc);
+    facts.print(&mut text)?;
     assert_eq!(rt; text.as_slice(), expected.as_bytes());
     Ok(())
 }
@@ -111,6 +124,23 @@ fn effects(rt: HostRuntime) -> Result<(), Fail> {
 }
 
 #[test]
+fn settling(rt: HostRuntime) -> Result<(), Fail> {
+    let alloc = rt.alloc();
+    let mut facts = Facts::new(alloc);
+    change(alloc, &mut facts, true, "a")?;
+    change(alloc, &mut facts, true, "b")?;
+    change(alloc, &mut facts, false, "a")?;
+    facts.settle();
+    facts.lawful();
+    check_print(&rt, alloc, &facts, " p(b)")?;
+    let mark = facts.mark();
+    change(alloc, &mut facts, true, "a")?;
+    check_print(&rt, alloc, &facts, " p(a), p(b)")?;
+    facts.undo_to(&mark);
+    check(&rt, alloc, &facts, "p(b) ")
+}
+
+#[test]
 fn laws(_rt: HostRuntime) {
     members_after_changes();
     changes_go_back();
@@ -131,4 +161,49 @@ fn matching(rt: HostRuntime) -> Result<(), Fail> {
         check_found(&rt, alloc, &facts, &pair(alloc, left, right)?, expected)?;
     }
     Ok(())
+}
+
+/// Facts of three names, one of which was taken out again.
+fn three_names(alloc: Global) -> Result<Facts, Fail> {
+    let mut facts = Facts::new(alloc);
+    for (name, left, right) in [
+        ("p", "b", "c"),
+        ("q", "a", "c"),
+        ("q", "b", "a"),
+        ("q", "b", "b"),
+        ("q", "b", "c"),
+        ("q", "c", "b"),
+        ("r", "b", "c"),
+    ] {
+        facts.insert(&named(alloc, name, left, right)?)?;
+    }
+    facts.insert(&fact(alloc, "b")?)?;
+    facts.remove(&pair(alloc, "b", "b")?)?;
+    Ok(facts)
+}
+
+#[test]
+fn matching_by_beginning(rt: HostRuntime) -> Result<(), Fail> {
+    let alloc = rt.alloc();
+    let facts = three_names(alloc)?;
+    for (name, left, right, expected) in [
+        ("q", "b", "X", "q(b, a) q(b, c) "),
+        ("q", "X", "c", "q(a, c) q(b, c) "),
+        ("q", "X", "X", ""),
+        ("q", "b", "c", "q(b, c) "),
+        ("q", "b", "b", ""),
+        ("q", "d", "X", ""),
+        ("p", "X", "c", "p(b, c) "),
+        ("r", "b", "X", "r(b, c) "),
+        ("s", "b", "X", ""),
+    ] {
+        check_found(
+            &rt,
+            alloc,
+            &facts,
+            &named(alloc, name, left, right)?,
+            expected,
+        )?;
+    }
+    check_found(&rt, alloc, &facts, &fact(alloc, "X")?, "p(b) ")
 }

@@ -1,24 +1,17 @@
-use Rattle.std.proofs.Common.{◌≡◌, ◌∙◌, ◌∷◌, Bool, List, cond, ap, subst}
-use Rattle.lps_terms.specs.declared.atom.Atom.{Atom}
-use Rattle.lps_facts.specs.Matching.{IsInstance}
+use Rattle.std.proofs.Common.{◌≡◌, ◌∙◌, true, ap, subst, sym}
+use Rattle.std.specs.List.{list_all}
+use Rattle.std.proofs.lemmas.Result.{IfOk-weaker}
+use Rattle.lps_facts.specs.Beginning.{is_fixed}
+use Rattle.lps_facts.specs.Matching.{IsInstance, IsSelection}
 use Rattle.lps_facts.specs.Trail.{present}
-use Rattle.lps_facts.proofs.Selections.{Continues, continues_picked, continues_done}
+use Rattle.lps_facts.proofs.Beginnings.{selected_one}
+use Rattle.lps_facts.proofs.Present.{present_sorted}
 use Rattle.lps_facts.proofs.entries.copy_matching.Goals as goal
 
-pub loop-fact-preserved-in-Continue-1 : goal.loop-fact-preserved-in-Continue-1
-loop-fact-preserved-in-Continue-1 c =
-    let P = IsInstance c.args.pattern.now in
-    let whole = present c.args.entries.now.entries in
-    let fact = c.in-Some.fact.now in
-    let left = present c.next.new.self in
-    let first : present c.loop-fact.fact-iterator ≡ fact ∷ left =
-    ap present c.in-Some.ensures.steps ∙ ap (λ (here : Bool). cond here (fact ∷ left) left) c.if-present.true in
-    continues_picked P whole left fact c.loop-fact.facts.items c.pick.new.facts.items
-    (subst (λ (facts : List Atom). Continues P whole facts c.loop-fact.facts.items) first c.loop-fact.invariant) c.in_ok-pick.ensures
-
-pub returns : goal.returns
-returns c =
-    let P = IsInstance c.args.pattern.now in
-    let whole = present c.args.entries.now.entries in
-    continues_done P whole c.loop-fact.facts.items
-    (subst (λ (facts : List Atom). Continues P whole facts c.loop-fact.facts.items) (ap present c.in-None.ensures.steps.0) c.loop-fact.invariant)
+pub returns-then-are_fixed : goal.returns-then-are_fixed
+returns-then-are_fixed c =
+    let entries = c.args.entries.now.entries in
+    let fixed : list_all is_fixed c.args.pattern.now.args ≡ true = ap (list_all is_fixed) (sym c.as_slice.ensures) ∙ sym c.are_fixed.ensures ∙ c.if-are_fixed.true in
+    IfOk-weaker c.copy_same.result _ _
+    (λ found is. subst (IsSelection (IsInstance c.args.pattern.now) (present entries)) (sym is) (selected_one c.args.pattern.now fixed (present entries) (present_sorted entries c.requires)))
+    c.copy_same.ensures
