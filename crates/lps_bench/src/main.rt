@@ -8,7 +8,6 @@ mod solving;
 mod terms;
 mod unifying;
 
-use lps_solve::SolveError;
 use lps_terms::{Values, print_term};
 use solving::answers_of_last;
 use std::alloc::{AllocError, Global};
@@ -20,8 +19,8 @@ use unifying::{unify_doubling, unify_large};
 /// Does the task that the first word names. `large COUNT` unifies two terms of 1,024 symbols so many times, and `doubling
 /// COUNT` unifies lists of so many variables and pairs, whose solution would be exponential when written out; both print
 /// how often unification succeeded. `answers LIMIT` reads a text of at most so many bytes on standard input, and prints the
-/// answers to the conditions of its last clause over its initial facts, each on a line. Other words, and a text that is
-/// not accepted, give the status 2.
+/// answers to the conditions of its last clause without arguments over its initial facts, each on a line. Other words, and a
+/// text that is not accepted, give the status 2.
 fn main(rt: HostRuntime) -> io::Result<ExitCode> {
     let mut words = Vec::new(rt.alloc());
     for word in env::args(&rt)?.skip(1) {
@@ -45,18 +44,14 @@ fn main(rt: HostRuntime) -> io::Result<ExitCode> {
         "answers" => {
             let mut bytes = Vec::new(rt.alloc());
             rt.reader().take(u64::from(count)).read_to_end(&mut bytes)?;
-            match answers_of_last(rt.alloc(), bytes.as_slice()) {
-                Ok(Some(answers)) => {
+            match answers_of_last(rt.alloc(), bytes.as_slice())? {
+                Some(answers) => {
                     for answer in answers.as_slice() {
                         let line = line_of(rt.alloc(), answer)?;
                         println!(rt; "{line}")?;
                     }
                 }
-                Ok(None) => return Ok(ExitCode::from(2)),
-                Err(error) => {
-                    println!(rt; "{error}")?;
-                    return Ok(ExitCode::from(1));
-                }
+                None => return Ok(ExitCode::from(2)),
             }
         }
         _ => return Ok(ExitCode::from(2)),

@@ -4,31 +4,27 @@ ghost use Rattle.std.specs.List.{list_all};
 ghost use Rattle.lps_model.specs.Formed.{is_formed};
 ghost use Rattle.lps_derivation.specs.Ground.{is_ground};
 ghost use Rattle.lps_facts.specs.Facts.{members};
+ghost use Rattle.lps_bench.specs.Goals.{HasGoal, IsGoal};
 
 use lps_accept::{AcceptError, accept};
 use lps_facts::Facts;
 use lps_formed::read_texts_are_formed;
 use lps_model::Accepted;
 use lps_reader::{ReadError, read_text};
-use lps_solve::{Program, SolveError, above_conds, accepted_texts_are_sound, answers, are_ground};
-use lps_terms::{Atom, Body, Cond, Text, Values};
+use lps_solve::{Program, above_conds, answers, are_ground};
+use lps_terms::{Atom, Body, Cond, Statement, Text, Values};
 use lps_unify::Bindings;
 use std::alloc::{AllocError, Global};
 
-/// How far the search may go down.
-const FUEL: u64 = 1_000_000;
-
-/// The answers to the conditions of the last clause of a text, over its initial facts; none where it is no accepted text with
-/// a clause, or has a number that is out of range.
-pub fn answers_of_last(alloc: Global, bytes: &[u8]) -> Result<Option<Vec<Values>>, SolveError> {
+/// The answers to the conditions of the last clause without arguments of a text, over its initial facts; none where it is no
+/// accepted text with such a clause, or has a number that is out of range.
+pub fn answers_of_last(alloc: Global, bytes: &[u8]) -> Result<Option<Vec<Values>>, AllocError> {
     let Some(text) = accepted_text(alloc, bytes)? else {
         return Ok(None);
     };
-    let facts = facts_of(alloc, text.text())?;
-    match last_conditions(text.text()) {
-        Some(conds) => answers_in(alloc, &text, &facts, conds),
-        None => Ok(None),
-    }
+    let program = Program::new(alloc, text)?;
+    let facts = facts_of(alloc, program.text().text())?;
+    answers_in(alloc, &program, &facts)
 }
 
 /// Reads bytes as a text, which is then well-formed.
@@ -65,15 +61,26 @@ fn facts_of(alloc: Global, text: &Text) -> Result<Facts, AllocError> {
     Ok(facts)
 }
 
-/// The conditions of the last clause of a text.
-fn last_conditions(text: &Text) -> Option<&[Cond]> {
-    let mut last = None;
-    for statement in text.statements.as_slice() {
-        if let Body::Clause { head: _, conds } = &statement.body {
-            last = Some(conds.as_slice());
+/// The conditions of the last clause of a text whose head has no arguments.
+fn last_conditions(text: &Text) -> Option<&[Cond]>
+    ensures { IfSome result (λ conds. HasGoal text.now.statements conds.now) }
+{
+    for statement in text.statements.as_slice().iter().rev() {
+        if let Some(conds) = goal_of(statement) {
+            return Some(conds);
         }
     }
-    last
+    None
+}
+
+/// The conditions of a statement that is a clause whose head has no arguments.
+fn goal_of(statement: &Statement) -> Option<&[Cond]>
+    ensures { IfSome result (λ conds. IsGoal statement.now conds.now) }
+{
+    match &statement.body {
+        Body::Clause { head, conds } if head.args.is_empty() => Some(conds.as_slice()),
+        _ => None,
+    }
 }
 
 /// Whether all of these facts are ground.
@@ -91,23 +98,24 @@ fn are_all_ground(alloc: Global, facts: &Facts) -> Result<bool, AllocError>
     Ok(are_ground_facts(sorted.as_slice()))
 }
 
-/// The answers to conditions by the clauses of a text over facts, where these are ground.
+/// The answers to the conditions of the last clause without arguments over facts, where these are ground.
 fn answers_in(
     alloc: Global,
-    text: &Accepted,
+    program: &Program,
     facts: &Facts,
-    conds: &[Cond],
-) -> Result<Option<Vec<Values>>, SolveError> {
-    let program = Program::new(alloc, text.text())?;
+) -> Result<Option<Vec<Values>>, AllocError> {
+    program.lawful();
+    let Some(conds) = last_conditions(program.text().text()) else {
+        return Ok(None);
+    };
     let Some(variables) = fitting(above_conds(conds)) else {
         return Ok(None);
     };
     if !are_all_ground(alloc, facts)? {
         return Ok(None);
     }
-    accepted_texts_are_sound();
     let mut bindings = Bindings::new(alloc, variables)?;
-    let found = answers(alloc, &program, facts, FUEL, conds, &mut bindings)?;
+    let found = answers(alloc, program, facts, conds, &mut bindings)?;
     Ok(Some(found))
 }
 

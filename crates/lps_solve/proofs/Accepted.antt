@@ -24,7 +24,7 @@ use Rattle.lps_derivation.specs.Clauses.{Clause, clause_in, clauses}
 use Rattle.lps_derivation.specs.Levels.{AreLevels}
 use Rattle.lps_levels.specs.Graphs.{HasCalledHead}
 use Rattle.lps_levels.proofs.Heads.{heads_are_called}
-use Rattle.lps_solve.specs.Answers.{IsSound, IsWritten}
+use Rattle.lps_solve.specs.Answers.{IsSearched, IsSound, IsWritten}
 use Rattle.lps_solve.specs.Met.{AreGround}
 use Rattle.lps_solve.proofs.Formed.{clause_is_written}
 use Rattle.lps_solve.proofs.Grounds.{second_of, first_of_two}
@@ -42,7 +42,7 @@ flat_holds f (z ∷ zs) x y at within = by (flat_holds f zs x y) (first_or_later
 -- ---- the statement of a clause
 
 -- a statement of the text has this clause
-record IsStated (text : Text) (k : Clause) : Type 0 where
+pub record IsStated (text : Text) (k : Clause) : Type 0 where
   pub statement : Statement
   pub among : Contains text.statements statement
   pub says : statement.body ≡ b.Clause k.head k.conds
@@ -86,7 +86,7 @@ flat_within f (x ∷ xs) y at = by (split_append (f x) (flat_map f xs) y at) (fl
     by (inl here) later = record { one = x; among = first_is_contained x xs; within = here }
     by (inr there) later = let found = later there in record { one = found.one; among = Contains-append_right (x ∷ []) xs found.one found.among; within = found.within }
 
-is_stated : (text : Text) (k : Clause) → Contains (clauses text) k → IsStated text k
+pub is_stated : (text : Text) (k : Clause) → Contains (clauses text) k → IsStated text k
 is_stated text k at =
     let found = flat_within (λ (s : Statement). clause_in s.body) text.statements k at in
     stated_by found.one found.one.body refl text found.among k found.within
@@ -116,8 +116,11 @@ first_none : (one other : Option Refused) → option_or one other ≡ None → o
 first_none None other e = refl
 first_none (Some refused) other e = absurd (cc)
 
+pub no_kind_refusal : (text : Text) → IsAccepted text → kind_refusal text ≡ None
+no_kind_refusal text accepted = first_none (kind_refusal text) _ accepted.not_refused
+
 -- the head of a clause of the text has a kind whose names are called
-is_called_head : (text : Text) → kind_refusal text ≡ None → (k : Clause) → Contains (clauses text) k → is_called (kind_among (declarations text) k.head.name) ≡ true
+pub is_called_head : (text : Text) → kind_refusal text ≡ None → (k : Clause) → Contains (clauses text) k → is_called (kind_among (declarations text) k.head.name) ≡ true
 is_called_head text e k at =
     let stated = is_stated text k at in
     let s : Statement = stated.statement in
@@ -130,24 +133,28 @@ strict_where_negated true other h = refl
 strict_where_negated false other h = absurd (cc)
 
 -- the call of a literal of such a name
-abbrev call_at : Text → Atom → Lit → Call
+abbrev pub call_at : Text → Atom → Lit → Call
 call_at text head l = record { caller = head.name; callee = l.atom.name; is_strict = l.negated || not (descends (declarations text) head l.atom || false) }
 
 is_call : (text : Text) (head : Atom) (l : Lit) → is_called (kind_among (declarations text) l.atom.name) ≡ true → Contains (call_in_cond (declarations text) head (c.Lit l)) (call_at text head l)
 is_call text head l called = subst (λ test. Contains (cond test (call_at text head l ∷ []) []) (call_at text head l)) (sym called) (first_is_contained (call_at text head l) [])
 
+-- the levels of an accepted text are those of the calls of its clauses
+pub call_is_level : (text : Text) (level : List ℕ → ℕ) → model.AreLevels (calls text) level → (k : Clause) → Contains (clauses text) k → (l : Lit) → Contains k.conds (c.Lit l) →
+    is_called (kind_among (declarations text) l.atom.name) ≡ true → model.IsLevel level (call_at text k.head l)
+call_is_level text level are k at l within called =
+    let stated = is_stated text k at in
+    let in_conds = flat_holds (call_in_cond (declarations text) k.head) k.conds (c.Lit l) (call_at text k.head l) within (is_call text k.head l called) in
+    let in_body : Contains (calls_in (declarations text) stated.statement.body) (call_at text k.head l) =
+    subst (λ body. Contains (calls_in (declarations text) body) (call_at text k.head l)) (sym stated.says) in_conds in
+    are (call_at text k.head l) (flat_holds (λ (s : Statement). calls_in (declarations text) s.body) text.statements stated.statement (call_at text k.head l) stated.among in_body)
+
 levels : (text : Text) → IsAccepted text → (level : List ℕ → ℕ) → model.AreLevels (calls text) level → AreLevels (clauses text) level
 levels text accepted level are = record {
   calls = λ k l at within defined.
-      let e : kind_refusal text ≡ None = first_none (kind_refusal text) _ accepted.not_refused in
       let called : is_called (kind_among (declarations text) l.atom.name) ≡ true =
-      subst (λ name. is_called (kind_among (declarations text) name) ≡ true) defined.named (is_called_head text e defined.clause defined.among) in
-      let stated = is_stated text k at in
-      let in_conds = flat_holds (call_in_cond (declarations text) k.head) k.conds (c.Lit l) (call_at text k.head l) within (is_call text k.head l called) in
-      let in_body : Contains (calls_in (declarations text) stated.statement.body) (call_at text k.head l) =
-      subst (λ body. Contains (calls_in (declarations text) body) (call_at text k.head l)) (sym stated.says) in_conds in
-      let in_text = flat_holds (λ (s : Statement). calls_in (declarations text) s.body) text.statements stated.statement (call_at text k.head l) stated.among in_body in
-      let is = are (call_at text k.head l) in_text in
+      subst (λ name. is_called (kind_among (declarations text) name) ≡ true) defined.named (is_called_head text (no_kind_refusal text accepted) defined.clause defined.among) in
+      let is = call_is_level text level are k at l within called in
       record { no_higher = is.no_higher; lower = λ negated. is.lower (strict_where_negated l.negated _ negated) };
 }
 
@@ -155,3 +162,6 @@ levels text accepted level are = record {
 pub accepted_is_sound : (text : Text) → IsAccepted text → is_formed text ≡ true → (facts : List Atom) → ((a : Atom) → Contains facts a → AreGround a.args) → IsSound (clauses text) facts
 accepted_is_sound text accepted formed facts ground =
     record { ground = ground; written = written text formed; level = accepted.level; levels = levels text accepted accepted.level accepted.levelled }
+
+pub searched_is_sound : (text : Text) (levels : List (List ℕ × ℕ)) (facts : List Atom) → IsSearched text levels facts → IsSound (clauses text) facts
+searched_is_sound text levels facts is = accepted_is_sound text is.accepted is.formed facts is.ground

@@ -37,7 +37,7 @@ use Rattle.lps_solve.proofs.Vars.{all_append, all_first, all_second, are_within,
 
 -- ---- counting from 0
 
-from_zero : (s : ℕ → Term) → (λ (v : ℕ). s (0 + v)) ≡ s
+pub from_zero : (s : ℕ → Term) → (λ (v : ℕ). s (0 + v)) ≡ s
 from_zero s = λ i v. let e : 0 + v ≡ v = omega arith in ap s e i
 
 pub placed_from_zero : (b : TrailedBindings) (cond : Cond) → put_cond (values_in b 0) cond ≡ put_cond (standing b).value cond
@@ -45,19 +45,19 @@ placed_from_zero b cond = ap (λ f. put_cond f cond) (from_zero (standing b).val
 
 -- ---- the variables that are left
 
-module _ (n : ℕ) where
-  inserted_by : (known : List ℕ) (v w : ℕ) (o : Ordering) → nat_cmp v w ≡ o → w < n → v < n → AllByRecursion (IsBelow n) known → AllByRecursion (IsBelow n) (insert_key nat_cmp known v) → AllByRecursion (IsBelow n) (insert_key nat_cmp (w ∷ known) v)
-  inserted_by known v w Less e below lt all rest = rw e (lt, (below, all))
-  inserted_by known v w Equal e below lt all rest = rw e (below, all)
-  inserted_by known v w Greater e below lt all rest = rw e (below, rest)
+module _ (P : ℕ → Type 0) where
+  inserted_by : (known : List ℕ) (v w : ℕ) (o : Ordering) → nat_cmp v w ≡ o → P w → P v → AllByRecursion P known → AllByRecursion P (insert_key nat_cmp known v) → AllByRecursion P (insert_key nat_cmp (w ∷ known) v)
+  inserted_by known v w Less e old new all rest = rw e (new, (old, all))
+  inserted_by known v w Equal e old new all rest = rw e (old, all)
+  inserted_by known v w Greater e old new all rest = rw e (old, rest)
 
-  inserted : (known : List ℕ) (v : ℕ) → v < n → AllByRecursion (IsBelow n) known → AllByRecursion (IsBelow n) (insert_key nat_cmp known v)
-  inserted [] v lt all = (lt, tt)
-  inserted (w ∷ known) v lt all = inserted_by known v w (nat_cmp v w) refl all.0 lt all.1 (inserted known v lt all.1)
+  inserted : (known : List ℕ) (v : ℕ) → P v → AllByRecursion P known → AllByRecursion P (insert_key nat_cmp known v)
+  inserted [] v new all = (new, tt)
+  inserted (w ∷ known) v new all = inserted_by known v w (nat_cmp v w) refl all.0 new all.1 (inserted known v new all.1)
 
-  with_below : (known vars : List ℕ) → AllByRecursion (IsBelow n) known → AllByRecursion (IsBelow n) vars → AllByRecursion (IsBelow n) (with_vars known vars)
-  with_below known [] all more = all
-  with_below known (v ∷ vars) all more = with_below (insert_key nat_cmp known v) vars (inserted known v more.0 all) more.1
+  pub with_all : (known vars : List ℕ) → AllByRecursion P known → AllByRecursion P vars → AllByRecursion P (with_vars known vars)
+  with_all known [] all more = all
+  with_all known (v ∷ vars) all more = with_all (insert_key nat_cmp known v) vars (inserted known v more.0 all) more.1
 
 vars_below : (n : ℕ) (vars : List ℕ) → AllByRecursion (IsBelow n) vars → AllByRecursion (IsBelow n) (args_vars (map (λ v. t.Var v) vars))
 vars_below n [] h = tt
@@ -75,7 +75,7 @@ module _ (b : TrailedBindings) (lawful : IsLawful b) where
   pub wanted_within : (conds : List Cond) → AreBelow (count_of b) 0 (flat_map cond_vars conds) → (wanted : List Term) → wanted ≡ map (λ v. t.Var v) (variables_left b conds) → AreWithin (count_of b) wanted
   wanted_within conds h wanted e =
       subst (AreWithin (count_of b)) (sym e)
-      (are_within (count_of b) (map (λ v. t.Var v) (variables_left b conds)) (vars_below (count_of b) (variables_left b conds) (with_below (count_of b) [] (flat_map cond_vars (map (put_cond (standing b).value) conds)) tt (placed_below conds h))))
+      (are_within (count_of b) (map (λ v. t.Var v) (variables_left b conds)) (vars_below (count_of b) (variables_left b conds) (with_all (IsBelow (count_of b)) [] (flat_map cond_vars (map (put_cond (standing b).value) conds)) tt (placed_below conds h))))
 
 pub cond_below : (count : ℕ) (conds : List Cond) (i : ℕ) (k : Cond) → i < length conds → k ≡ get_or conds i k → AreBelow count 0 (flat_map cond_vars conds) → AreBelow count 0 (cond_vars k)
 cond_below count [] i k lt is h = absurd (omega arith)

@@ -1,10 +1,12 @@
 -- The wanted terms with the bindings put in.
 use Rattle.std.proofs.Common.{ℕ, ◌≡◌, ◌+◌, ◌≤◌, ◌<◌, List, [], ◌∷◌, ◌++◌, map, take, length, get_or, min, refl, sym, ap, ◌∙◌, subst, arith}
-use Rattle.std.specs.Prelude.{zero, suc}
-use Rattle.std.specs.List.{AllByRecursion}
+use Rattle.std.specs.Prelude.{zero, suc, false}
+use Rattle.std.specs.List.{AllByRecursion, list_all}
 use Rattle.lps_terms.specs.declared.term.Term.{Term}
 use Rattle.lps_terms.specs.Put.{put}
 use Rattle.lps_terms.specs.Symbols.{symbols_of, symbols_of_all}
+use Rattle.lps_model.specs.VariableLists.{args_vars}
+use Rattle.lps_derivation.specs.Ground.{is_ground}
 use Rattle.lps_unify.specs.Bindings.{TrailedBindings, standing, resolved, Solves, IsLawful}
 use Rattle.lps_unify.proofs.Standings.{goes_through, solves_itself}
 use Rattle.lps_solve.specs.Found.{Gains, IsResolvedRow, IsRow}
@@ -12,6 +14,7 @@ use Rattle.lps_solve.specs.Met.{AreGround}
 use Rattle.lps_solve.proofs.Gaining.{Gains-same, take_whole}
 use Rattle.lps_solve.proofs.Grounds.{list_stays}
 use Rattle.lps_solve.proofs.Placing.{map_more}
+use Rattle.lps_solve.proofs.Readiness.{never_ground_list}
 use Rattle.lps_solve.proofs.Sizes.{grows}
 use Rattle.lps_solve.proofs.Vars.{all_append}
 
@@ -62,3 +65,11 @@ module _ (most room : ℕ) (b : TrailedBindings) (lawful : IsLawful b) (wanted t
         fits = subst (IsRow most room) (sym e) record { ground = ground; each = small; all = fits };
       })
       only g
+
+-- terms that are closed and not ground are no row
+pub no_ground_row : (most room : ℕ) (b : TrailedBindings) (lawful : IsLawful b) (wanted terms : List Term) (i : ℕ) → length wanted ≤ i → terms ≡ map (resolved b) (take i wanted) → args_vars (map (put (standing b).value) wanted) ≡ [] →
+    list_all is_ground terms ≡ false → (row : List Term) → IsResolvedRow most room b wanted row → ⊥
+no_ground_row most room b lawful wanted terms i whole all closed fails row h =
+    let are : terms ≡ map (resolved b) wanted = all ∙ ap (map (resolved b)) (take_whole i wanted whole) in
+    let is : map (put h.values) terms ≡ row = ap (map (put h.values)) are ∙ through_all b lawful h.values h.solve wanted ∙ sym h.is in
+    never_ground_list terms (ap args_vars are ∙ closed) fails h.values (ap (list_all is_ground) is ∙ h.fits.ground)

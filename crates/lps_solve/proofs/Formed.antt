@@ -81,7 +81,7 @@ module _ (n : ℕ) (s : ℕ → Term) (ground : (v : ℕ) → IsTrue (is_ground 
   atom_is_ground : (a : Atom) → is_formed_atom n a ≡ true → AreGround (map (put s) a.args)
   atom_is_ground a h = terms_are_ground a.args (second_of (is_proper_name a.name && nat_le (length a.args) 64) (list_all (is_formed_term n) a.args) h)
 
-  cond_is_ground : (k : Cond) → is_formed_cond n k ≡ true → IsGroundCond (put_cond s k)
+  pub cond_is_ground : (k : Cond) → is_formed_cond n k ≡ true → IsGroundCond (put_cond s k)
   cond_is_ground (c.Lit l) h = atom_is_ground l.atom h
   cond_is_ground (c.Built built) h = built_is_ground built h
 

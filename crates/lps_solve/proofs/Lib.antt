@@ -16,3 +16,9 @@ pub mod Facts
 pub mod Answering
 pub mod Formed
 pub mod Accepted
+pub mod Moding
+pub mod Closed
+pub mod Sets
+pub mod Modes
+pub mod Readiness
+pub mod Falling

@@ -115,6 +115,16 @@ module _ (left right : Term) (small : IsSmallBuilt (b.Same left right)) where
       (λ row h. subst AreGround (sym (one_row (right ∷ []) row h)) (one_ground right ground))
       (λ count h. vars_one (λ v. v < count) left (all_first (λ v. v < count) (term_vars left) (term_vars right) h))
 
+-- nothing meets a built-in that is ground in no instance
+pub never_ways : (built : Built) (ways : Ways) → ((s : ℕ → Term) → IsGroundBuilt (put_built s built) → ⊥) → ways.terms ≡ [] → ways.rows ≡ [] → MeetsBuilt built ways
+never_ways built ways never et er = ways_are built ways [] [] et er
+    (λ s. (
+      λ m. absurd (never s m.ground),
+      λ h. absurd (nothing_contained [] h),
+    ))
+    (λ row h. absurd (nothing_contained row h))
+    (λ count h. tt)
+
 -- a built-in that stays as it is where terms are put in
 module _ (built : Built) (ground : IsGroundBuilt built) (small : IsSmallBuilt built) (stays : (s : ℕ → Term) → put_built s built ≡ built) where
   tested : (holds : Bool) → is_true built ≡ holds → Meets [] (met_rows holds) (λ s. IsMetBuilt (put_built s built))

@@ -194,6 +194,9 @@ no_vars_each : (ts : List Term) → AllByRecursion (λ x. is_ground x ≡ true �
 no_vars_each [] = tt
 no_vars_each (x ∷ xs) = (no_vars x, no_vars_each xs)
 
+pub no_vars_list : (xs : List Term) → list_all is_ground xs ≡ true → args_vars xs ≡ []
+no_vars_list xs h = no_vars_all xs (no_vars_each xs) h
+
 pub ground_within : (n : ℕ) (xs : List Term) → list_all is_ground xs ≡ true → AreWithin n xs
 ground_within n xs h = are_within n xs (subst (AllByRecursion (IsBelow n)) (sym (no_vars_all xs (no_vars_each xs) h)) tt)
 

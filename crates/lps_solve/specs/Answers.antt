@@ -7,6 +7,11 @@ use Rattle.lps_terms.specs.declared.atom.Atom.{Atom}
 use Rattle.lps_terms.specs.declared.cond.Cond.{Cond}
 use Rattle.lps_terms.specs.declared.term.Term.{Term}
 use Rattle.lps_terms.specs.Symbols.{symbols_of}
+use Rattle.lps_terms.specs.declared.text.Text.{Text}
+use Rattle.lps_model.specs.Acceptance.{IsAccepted}
+use Rattle.lps_model.specs.Calls.{calls}
+use Rattle.lps_model.specs.Formed.{is_formed}
+use Rattle.lps_model.specs.Levels.{AreLevels as AreLevelsIn, level_among}
 use Rattle.lps_model.specs.VariableLists.{cond_vars}
 use Rattle.lps_derivation.specs.Clauses.{Clause}
 use Rattle.lps_derivation.specs.Instances.{IsSmall, IsSmallCond, put_clause, put_cond}
@@ -49,3 +54,10 @@ pub record IsSound (program : List Clause) (facts : List Atom) : Type 0 where
   pub written : (k : Clause) → Contains program k → IsWritten k
   pub level : List ℕ → ℕ
   pub levels : AreLevels program level
+
+-- the text is accepted and well-formed, these are levels for its calls, and the facts are ground
+pub record IsSearched (text : Text) (levels : List (List ℕ × ℕ)) (facts : List Atom) : Type 0 where
+  pub ground : (a : Atom) → Contains facts a → AreGround a.args
+  pub accepted : IsAccepted text
+  pub formed : IsTrue (is_formed text)
+  pub levelled : AreLevelsIn (calls text) (level_among levels)

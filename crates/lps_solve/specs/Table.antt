@@ -5,9 +5,10 @@ use Rattle.std.specs.Map.{lookup}
 use Rattle.std.specs.Str.{bytes_eq}
 use Rattle.std.specs.declared.vec.Vec.{Vec}
 use Rattle.std.specs.declared.alloc.Global.{Global}
+use Rattle.lps_terms.specs.declared.text.Text.{Text}
 use Rattle.lps_model.specs.VariableLists.{atom_vars, cond_vars}
 use Rattle.std.specs.List.{flat_map}
-use Rattle.lps_derivation.specs.Clauses.{Clause}
+use Rattle.lps_derivation.specs.Clauses.{Clause, clauses}
 use Rattle.lps_solve.specs.declared.clause.Clause.{Clause as Entry}
 
 -- the clause of an entry
@@ -17,6 +18,10 @@ clause_of entry = record { head = entry.head; conds = entry.conds }
 -- the variables of a clause
 abbrev pub clause_vars : Clause → List ℕ
 clause_vars k = atom_vars k.head ++ flat_map cond_vars k.conds
+
+-- these are the clauses of the text, in text order
+abbrev pub AreClausesOf : Text → List Clause → Type 0
+AreClausesOf text program = program ≡ clauses text
 
 -- the clause at a place
 abbrev pub clause_at : List Clause → ℕ → Clause

@@ -3,17 +3,18 @@ ghost use Rattle.lps_terms.specs.declared.built.Built.TheVariants.{Compare, Diff
 ghost use Rattle.lps_terms.specs.declared.term.Term.TheVariants.{Int};
 ghost use Rattle.lps_derivation.specs.Instances.{IsSmallBuilt};
 ghost use Rattle.lps_solve.specs.Met.{MeetsBuilt};
+ghost use Rattle.lps_solve.specs.Moded.{IsReady};
 
 use crate::ground::{is_ground, is_ground_expr};
-use crate::solve_error::SolveError;
 use crate::ways::Ways;
 use lps_terms::{Built, Expr, Rel, Term};
 use lps_values::{holds, value};
-use std::alloc::Global;
+use std::alloc::{AllocError, Global};
 
-/// How a built-in is met.
-pub(crate) fn ways_to_meet(alloc: Global, built: Built) -> Result<Ways, SolveError>
-    requires { IsSmallBuilt built }
+/// How a built-in is met. What it needs has no variables.
+pub(crate) fn ways_to_meet(alloc: Global, built: Built) -> Result<Ways, AllocError>
+    requires small { IsSmallBuilt built }
+    requires ready { IsReady built }
     ensures { IfOk result (λ ways. MeetsBuilt built ways) }
 {
     match built {
@@ -24,8 +25,9 @@ pub(crate) fn ways_to_meet(alloc: Global, built: Built) -> Result<Ways, SolveErr
     }
 }
 
-fn ways_to_be_same(alloc: Global, left: Term, right: Term) -> Result<Ways, SolveError>
-    requires { IsSmallBuilt (Same left right) }
+fn ways_to_be_same(alloc: Global, left: Term, right: Term) -> Result<Ways, AllocError>
+    requires small { IsSmallBuilt (Same left right) }
+    requires ready { IsReady (Same left right) }
     ensures { IfOk result (λ ways. MeetsBuilt (Same left right) ways) }
 {
     if is_ground(&left) {
@@ -33,29 +35,31 @@ fn ways_to_be_same(alloc: Global, left: Term, right: Term) -> Result<Ways, Solve
     } else if is_ground(&right) {
         Ok(Ways::one(alloc, left, right)?)
     } else {
-        Err(SolveError::Unknown)
+        Ok(Ways::never(alloc))
     }
 }
 
-fn ways_to_differ(alloc: Global, left: Term, right: Term) -> Result<Ways, SolveError>
-    requires { IsSmallBuilt (Differ left right) }
+fn ways_to_differ(alloc: Global, left: Term, right: Term) -> Result<Ways, AllocError>
+    requires small { IsSmallBuilt (Differ left right) }
+    requires ready { IsReady (Differ left right) }
     ensures { IfOk result (λ ways. MeetsBuilt (Differ left right) ways) }
 {
     if !is_ground(&left) {
-        return Err(SolveError::Unknown);
+        return Ok(Ways::never(alloc));
     }
     if !is_ground(&right) {
-        return Err(SolveError::Unknown);
+        return Ok(Ways::never(alloc));
     }
     Ok(Ways::when(alloc, left != right)?)
 }
 
-fn ways_to_be_value(alloc: Global, left: Term, right: Expr) -> Result<Ways, SolveError>
-    requires { IsSmallBuilt (Is left right) }
+fn ways_to_be_value(alloc: Global, left: Term, right: Expr) -> Result<Ways, AllocError>
+    requires small { IsSmallBuilt (Is left right) }
+    requires ready { IsReady (Is left right) }
     ensures { IfOk result (λ ways. MeetsBuilt (Is left right) ways) }
 {
     if !is_ground_expr(&right) {
-        return Err(SolveError::Unknown);
+        return Ok(Ways::never(alloc));
     }
     match value(&right) {
         Some(value) => Ok(Ways::one(alloc, left, integer(value))?),
@@ -69,15 +73,16 @@ fn integer(value: i64) -> Term
     Term::Int(value)
 }
 
-fn ways_to_compare(alloc: Global, rel: Rel, left: Expr, right: Expr) -> Result<Ways, SolveError>
-    requires { IsSmallBuilt (Compare rel left right) }
+fn ways_to_compare(alloc: Global, rel: Rel, left: Expr, right: Expr) -> Result<Ways, AllocError>
+    requires small { IsSmallBuilt (Compare rel left right) }
+    requires ready { IsReady (Compare rel left right) }
     ensures { IfOk result (λ ways. MeetsBuilt (Compare rel left right) ways) }
 {
     if !is_ground_expr(&left) {
-        return Err(SolveError::Unknown);
+        return Ok(Ways::never(alloc));
     }
     if !is_ground_expr(&right) {
-        return Err(SolveError::Unknown);
+        return Ok(Ways::never(alloc));
     }
     let built = Built::Compare(rel, left, right);
     Ok(Ways::when(alloc, holds(&built))?)

@@ -1,14 +1,15 @@
-ghost use Rattle.std.specs.Prelude.{◌≡◌, ◌≤◌, ◌<◌, ◌+◌, ◌^◌, IfOk, IfSome, OnOk};
+ghost use Rattle.std.specs.Prelude.{◌≡◌, ◌≤◌, ◌<◌, ◌+◌, ◌^◌, [], IfOk, IfSome, OnOk, map};
+ghost use Rattle.lps_terms.specs.Put.{put};
 ghost use Rattle.lps_terms.specs.Symbols.{symbols_of_all};
+ghost use Rattle.lps_model.specs.VariableLists.{args_vars};
 ghost use Rattle.lps_facts.specs.Facts.{members};
-ghost use Rattle.lps_unify.specs.Bindings.{count_of};
+ghost use Rattle.lps_unify.specs.Bindings.{count_of, standing};
 ghost use Rattle.lps_unify.specs.Unified.{AreWithin};
 ghost use Rattle.lps_solve.specs.Found.{Gains, IsFactFor, IsResolvedRow, IsRowOf};
 
 use crate::ground::are_ground;
 use crate::row::Row;
 use crate::size::{MOST_SYMBOLS, symbols_of_all};
-use crate::solve_error::SolveError;
 use lps_facts::Facts;
 use lps_terms::{Atom, Term, atom_symbols, copy_atom};
 use lps_unify::Bindings;
@@ -43,15 +44,17 @@ fn add_fact(alloc: Global, fact: &Atom, found: &mut BTreeSet<Row>) -> Result<(),
     Ok(())
 }
 
-/// Adds the wanted terms with the bindings put in, where they have at most 1,024 symbols each and `room` symbols together.
+/// Adds the wanted terms with the bindings put in, where they are ground, and have at most 1,024 symbols each and `room`
+/// symbols together. With the bindings put in they have no variables.
 pub(crate) fn collect(
     alloc: Global,
     wanted: &[Term],
     room: u64,
     bindings: &Bindings,
     found: &mut BTreeSet<Row>,
-) -> Result<(), SolveError>
+) -> Result<(), AllocError>
     requires within { AreWithin (count_of bindings.now) wanted.now }
+    requires closed { args_vars (map (put (standing bindings.now).value) wanted.now) ≡ [] }
     ensures { OnOk result (Gains found.old.keys found.new.keys (IsResolvedRow u64.MAX room bindings.now wanted.now)) }
 {
     bindings.lawful();
@@ -63,7 +66,7 @@ pub(crate) fn collect(
         terms.push(bindings.resolve(term)?)?;
     }
     if !are_ground(terms.as_slice()) {
-        return Err(SolveError::Unknown);
+        return Ok(());
     }
     if symbols_of_all(terms.as_slice()) > room {
         return Ok(());

@@ -6,14 +6,18 @@
 //! bindings are as they were on every way out (clause `same`).
 //!
 //! The search goes from a goal to the clauses of its name, binds in place, and takes each binding back. A negated
-//! literal is met where the search for its atom finds nothing. How deep it may go is told by a number; that a search is
-//! never given up where that number is large enough is not shown, nor that a variable is always known where it has to be.
+//! literal is met where the search for its atom finds nothing. It is never given up. What has to be known at a condition
+//! has a value when the search comes to it, since the text is accepted and the conditions that are asked for are
+//! well-moded (`Moded`); and it ends, since each goal is higher than the goals that its clauses call (`Heights`). So no
+//! number limits how deep it goes.
 //!
 //! Contracts cite these definitions:
 //!
 //! | file of `specs/` | defines |
 //! |---|---|
 //! | `Answers` | the answers to conditions under bindings, and what the clauses and facts have to be |
+//! | `Moded` | which conditions can be asked for under bindings, and what is known along a search |
+//! | `Heights` | how far down a search may go |
 //! | `Met` | conditions that are ground, small and true, and the ways to meet a condition |
 //! | `Found` | what a search finds, and what its steps gain |
 //! | `Placed` | the variables of a clause beside those of bindings |
@@ -23,6 +27,7 @@
 mod answer;
 mod built;
 mod clause;
+mod clauses;
 mod copy;
 mod found;
 mod ground;
@@ -33,7 +38,6 @@ mod program;
 mod row;
 mod search;
 mod size;
-mod solve_error;
 mod unify_all;
 mod variables;
 mod ways;
@@ -42,8 +46,7 @@ pub use answer::answers;
 pub use ground::are_ground;
 pub use laws::accepted_texts_are_sound;
 pub use program::Program;
-pub use solve_error::SolveError;
-pub use variables::above_conds;
+pub use variables::{above_conds, note_cond};
 
 #[cfg(test)]
 mod tests;

@@ -9,14 +9,13 @@ ghost use Rattle.lps_unify.specs.Bindings.{count_of};
 ghost use Rattle.lps_solve.specs.Placed.{AreBelow, applied_to, shift, values_in};
 
 use crate::size::{MOST_SYMBOLS, expr_symbols};
-use crate::solve_error::SolveError;
 use lps_terms::{Args, Atom, Expr, Op, Term, atom_symbols};
 use lps_unify::Bindings;
 use sqlite_items::{Boxed, Items};
 use std::alloc::{AllocError, Global};
 
 /// A term with its variables counted from `base`.
-pub(crate) fn shifted(alloc: Global, base: u32, term: &Term) -> Result<Term, SolveError>
+pub(crate) fn shifted(alloc: Global, base: u32, term: &Term) -> Result<Term, AllocError>
     ensures { IfOk result (λ found. found ≡ put (shift base) term.now) }
 {
     match term {
@@ -32,13 +31,13 @@ pub(crate) fn shifted(alloc: Global, base: u32, term: &Term) -> Result<Term, Sol
         }
         Term::Var(variable) => match base.checked_add(*variable) {
             Some(variable) => Ok(Term::Var(variable)),
-            None => Err(SolveError::NoMemory),
+            None => Err(AllocError),
         },
     }
 }
 
 /// Terms with their variables counted from `base`.
-pub(crate) fn shifted_all(alloc: Global, base: u32, terms: &[Term]) -> Result<Args, SolveError>
+pub(crate) fn shifted_all(alloc: Global, base: u32, terms: &[Term]) -> Result<Args, AllocError>
     ensures { IfOk result (λ found. found ≡ map (put (shift base)) terms.now) }
 {
     let mut copies = Items::new(alloc);
@@ -54,7 +53,7 @@ pub(crate) fn place_term(
     bindings: &Bindings,
     base: u32,
     term: &Term,
-) -> Result<Option<Term>, SolveError>
+) -> Result<Option<Term>, AllocError>
     requires { AreBelow (count_of bindings.now) base (term_vars term.now) }
     ensures { IfOk result (λ found. MatchOption found (1024 < symbols_of (put (values_in bindings.now base) term.now)) (λ x. (x ≡ put (values_in bindings.now base) term.now) × (symbols_of x ≤ 1024))) }
 {
@@ -72,7 +71,7 @@ fn place_args(
     bindings: &Bindings,
     base: u32,
     terms: &[Term],
-) -> Result<Option<Args>, SolveError>
+) -> Result<Option<Args>, AllocError>
     requires { AreBelow (count_of bindings.now) base (args_vars terms.now) }
     ensures { IfOk result (λ found. MatchOption found (1024 < symbols_of_all (map (put (values_in bindings.now base)) terms.now)) (λ xs. xs ≡ map (put (values_in bindings.now base)) terms.now)) }
 {
@@ -92,7 +91,7 @@ pub(crate) fn place_atom(
     bindings: &Bindings,
     base: u32,
     atom: &Atom,
-) -> Result<Option<Atom>, SolveError>
+) -> Result<Option<Atom>, AllocError>
     requires { AreBelow (count_of bindings.now) base (atom_vars atom.now) }
     ensures { IfOk result (λ found. MatchOption found (1024 < atom_symbols_of (put_atom (values_in bindings.now base) atom.now)) (λ a. (a ≡ put_atom (values_in bindings.now base) atom.now) × (atom_symbols_of a ≤ 1024))) }
 {
@@ -117,7 +116,7 @@ fn place_leaves(
     bindings: &Bindings,
     base: u32,
     expr: &Expr,
-) -> Result<Option<Expr>, SolveError>
+) -> Result<Option<Expr>, AllocError>
     requires { AreBelow (count_of bindings.now) base (expr_vars expr.now) }
     ensures { IfOk result (λ found. MatchOption found (1024 < expr_symbols_of (put_expr (values_in bindings.now base) expr.now)) (λ x. x ≡ put_expr (values_in bindings.now base) expr.now)) }
 {
@@ -162,7 +161,7 @@ pub(crate) fn place_expr(
     bindings: &Bindings,
     base: u32,
     expr: &Expr,
-) -> Result<Option<Expr>, SolveError>
+) -> Result<Option<Expr>, AllocError>
     requires { AreBelow (count_of bindings.now) base (expr_vars expr.now) }
     ensures { IfOk result (λ found. MatchOption found (1024 < expr_symbols_of (put_expr (values_in bindings.now base) expr.now)) (λ x. (x ≡ put_expr (values_in bindings.now base) expr.now) × (expr_symbols_of x ≤ 1024))) }
 {

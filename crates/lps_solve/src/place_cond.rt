@@ -5,10 +5,9 @@ ghost use Rattle.lps_unify.specs.Bindings.{count_of};
 ghost use Rattle.lps_solve.specs.Placed.{AreBelow, values_in};
 
 use crate::place::{place_atom, place_expr, place_term};
-use crate::solve_error::SolveError;
 use lps_terms::{Built, Cond, Lit};
 use lps_unify::Bindings;
-use std::alloc::Global;
+use std::alloc::{AllocError, Global};
 
 /// A condition with its variables counted from `base`, and the bindings put in; none where its atom or a side of it has more
 /// than 1,024 symbols then.
@@ -17,7 +16,7 @@ pub(crate) fn place_cond(
     bindings: &Bindings,
     base: u32,
     cond: &Cond,
-) -> Result<Option<Cond>, SolveError>
+) -> Result<Option<Cond>, AllocError>
     requires { AreBelow (count_of bindings.now) base (cond_vars cond.now) }
     ensures { IfOk result (λ found. MatchOption found (IsSmallCond (put_cond (values_in bindings.now base) cond.now) → ⊥) (λ x. (x ≡ put_cond (values_in bindings.now base) cond.now) × IsSmallCond x)) }
 {
@@ -41,7 +40,7 @@ fn place_built(
     bindings: &Bindings,
     base: u32,
     built: &Built,
-) -> Result<Option<Built>, SolveError>
+) -> Result<Option<Built>, AllocError>
     requires { AreBelow (count_of bindings.now) base (built_vars built.now) }
     ensures { IfOk result (λ found. MatchOption found (IsSmallBuilt (put_built (values_in bindings.now base) built.now) → ⊥) (λ x. (x ≡ put_built (values_in bindings.now base) built.now) × IsSmallBuilt x)) }
 {

@@ -1,120 +1,77 @@
-ghost use Rattle.std.specs.Prelude.{◌≡◌, ◌<◌, ◌++◌, ◌∷◌, [], ◌↔◌, ℕ, List, IfOk, OnOk, length, Contains};
+ghost use Rattle.std.specs.Prelude.{◌≡◌, ◌<◌, ◌↔◌, ℕ, IsTrue, IfOk, Contains, length};
 ghost use Rattle.std.specs.List.{AllByRecursion};
-ghost use Rattle.lps_terms.specs.declared.cond.Cond.{Cond as Condition};
-ghost use Rattle.lps_derivation.specs.Clauses.{clause_in, clauses};
-ghost use Rattle.lps_solve.specs.Table.{IsPlaceOf, IsWithPlace, clause_at, clause_of, clause_vars};
+ghost use Rattle.lps_model.specs.Acceptance.{IsAccepted};
+ghost use Rattle.lps_model.specs.Formed.{is_formed};
+ghost use Rattle.lps_derivation.specs.Clauses.{clauses};
+ghost use Rattle.lps_solve.specs.Table.{IsPlaceOf, clause_at, clause_of, clause_vars};
 
 use crate::clause::Clause;
-use crate::copy::copy_conds;
-use crate::variables::{above_conds, above_terms};
-use indexmap::IndexMap;
-use lps_terms::{Atom, Body, Cond, Name, Text, copy_atom};
+use crate::clauses::Clauses;
+use lps_model::Accepted;
+use lps_terms::Name;
 use std::alloc::{AllocError, Global};
 use std::marker::Model;
 
-/// The clauses of a text, found by the names of their heads. Contracts see the list of the clauses, in text order.
+/// An accepted text, with its clauses found by the names of their heads. Contracts see the text.
 #[derive(Drop)]
 pub struct Program {
-    clauses: Vec<Clause>,
-    /// For each name, which clauses have it in their heads.
-    table: Table,
+    text: Accepted,
+    clauses: Clauses,
 }
 
 impl Model for Program {
     ghost use Rattle.lps_terms.specs.contracts.expr.Expr as expr;
     ghost use Rattle.lps_terms.specs.contracts.term.Term as term;
-    ghost use Rattle.lps_derivation.specs.Clauses.{Clause};
+    ghost use Rattle.lps_terms.specs.declared.text.Text.{Text};
     ghost use Rattle.std.specs.Coded.{codes};
-    ghost use Rattle.std.specs.Prelude.{List, map};
-    ghost use Rattle.lps_solve.specs.Table.{IsTable, clause_of};
+    ghost use Rattle.lps_solve.specs.Table.{AreClausesOf};
 
-    ghost Value = { List Clause };
+    ghost Value = { Text };
 
     ghost coded = { Prim.hlevel (codes, term.the_row.coded, expr.the_row.coded) };
 
-    ghost view = { λ program. map clause_of program.clauses.items };
+    ghost view = { λ program. program.text };
 
-    ghost invariant = { λ program. IsTable program.clauses.items program.table.entries };
+    ghost invariant = { λ program. AreClausesOf program.text program.clauses };
 }
 
 impl Program {
-    /// The clauses of a text.
-    pub fn new(alloc: Global, text: &Text) -> Result<Program, AllocError>
-        ensures { IfOk result (λ program. program ≡ clauses text.now) }
+    /// The text with its clauses found by name. An error comes where memory runs out.
+    pub fn new(alloc: Global, text: Accepted) -> Result<Program, AllocError>
+        ensures { IfOk result (λ program. program ≡ text) }
     {
-        let mut program = Program {
-            clauses: Vec::new(alloc),
-            table: IndexMap::new(alloc),
-        };
-        for statement in text.statements.as_slice() {
-            program = program.with_body(alloc, &statement.body)?;
-        }
-        Ok(program)
+        let clauses = Clauses::new(alloc, text.text())?;
+        Ok(Program { text, clauses })
     }
 
-    /// The clauses with that of a statement, where it is one.
-    fn with_body(self, alloc: Global, body: &Body) -> Result<Program, AllocError>
-        ensures { IfOk result (λ program. program ≡ self ++ clause_in body.now) }
+    /// The text.
+    pub fn text(&self) -> &Accepted
+        ensures { result.now ≡ self.now }
     {
-        match body {
-            Body::Clause { head, conds } => self.with_clause(alloc, head, conds.as_slice()),
-            _ => Ok(self),
-        }
+        &self.text
     }
 
-    fn with_clause(self, alloc: Global, head: &Atom, conds: &[Cond]) -> Result<Program, AllocError>
-        ensures { IfOk result (λ program. program ≡ self ++ record { head = head.now; conds = conds.now } ∷ []) }
+    /// What holds of all programs.
+    pub fn lawful(&self)
+        ensures accepted { IsAccepted self.now }
+        ensures formed { IsTrue (is_formed self.now) }
     {
-        let Program { mut clauses, table } = self;
-        let variables = above_terms(head.args.as_slice()).max(above_conds(conds));
-        let table = with_place(alloc, table, &head.name, clauses.len())?;
-        let head = copy_atom(alloc, head)?;
-        let conds = copy_conds(alloc, conds)?;
-        clauses.push(Clause {
-            head,
-            conds,
-            variables,
-        })?;
-        Ok(Program { clauses, table })
+        let _ = self.text.text();
     }
 
     /// The places of the clauses with this name in their heads.
     pub(crate) fn places(&self, name: &Name) -> &[usize]
-        ensures { (i : ℕ) → Contains result.now i ↔ IsPlaceOf self.now name.now i }
+        ensures { (i : ℕ) → Contains result.now i ↔ IsPlaceOf (clauses self.now) name.now i }
     {
-        match self.table.get(name) {
-            Some(places) => places.as_slice(),
-            None => &[],
-        }
+        self.clauses.places(name)
     }
 
     /// The clause at a place.
     pub(crate) fn clause(&self, at: usize) -> &Clause
-        requires { at < length self.now }
-        ensures clause { clause_of result.now ≡ clause_at self.now at }
+        requires { at < length (clauses self.now) }
+        ensures clause { clause_of result.now ≡ clause_at (clauses self.now) at }
         ensures variables { AllByRecursion (λ v. v < result.now.variables) (clause_vars (clause_of result.now)) }
     {
-        &self.clauses[at]
+        self.clauses.clause(at)
     }
-}
-
-type Table = IndexMap<Name, Vec<usize>>;
-
-/// The table with one place more for a name.
-fn with_place(
-    alloc: Global,
-    mut table: Table,
-    name: &Name,
-    place: usize,
-) -> Result<Table, AllocError>
-    ensures { IfOk result (λ new. IsWithPlace name.now place table.entries new.entries) }
-{
-    let name = name.copy(alloc)?;
-    let mut places = match table.swap_remove(&name) {
-        Some(places) => places,
-        None => Vec::new(alloc),
-    };
-    places.push(place)?;
-    table.insert(name, places)?;
-    Ok(table)
 }

@@ -1,17 +1,20 @@
-ghost use Rattle.std.specs.Prelude.{◌≡◌, ◌≤◌, ◌+◌, IfOk, OnOk, Contains, map};
+ghost use Rattle.std.specs.Prelude.{◌≡◌, ◌≤◌, ◌+◌, [], IfOk, OnOk, Contains, map};
 ghost use Rattle.std.specs.List.{flat_map};
 ghost use Rattle.lps_terms.specs.Put.{put};
 ghost use Rattle.lps_terms.specs.declared.cond.Cond.TheVariants as Condition;
 ghost use Rattle.lps_model.specs.VariableLists.{args_vars, cond_vars};
 ghost use Rattle.lps_terms.specs.Symbols.{atom_symbols_of};
+ghost use Rattle.lps_model.specs.Program.{declarations};
+ghost use Rattle.lps_derivation.specs.Clauses.{clauses};
 ghost use Rattle.lps_derivation.specs.Instances.{put_cond};
 ghost use Rattle.lps_facts.specs.Facts.{members};
 ghost use Rattle.lps_unify.specs.Bindings.{count_of, standing};
 ghost use Rattle.lps_unify.specs.Unified.{AreWithin};
-ghost use Rattle.lps_solve.specs.Answers.{IsSound};
+ghost use Rattle.lps_solve.specs.Answers.{IsSearched};
 ghost use Rattle.lps_solve.specs.Found.{ByClause, Finds, GainsBy, IsLonger, Reaches, ReachesBy};
 ghost use Rattle.lps_solve.specs.Met.{AreGround, MeetsBy};
-ghost use Rattle.lps_solve.specs.Placed.{AreBelow};
+ghost use Rattle.lps_solve.specs.Moded.{IsMarked, IsModedRun, IsModedStep, IsReadyCond, needs_of};
+ghost use Rattle.lps_solve.specs.Placed.{AreBelow, values_in};
 ghost use Rattle.lps_solve.specs.Table.{clause_of, clause_vars};
 
 use crate::built::ways_to_meet;
@@ -22,21 +25,22 @@ use crate::place::shifted_all;
 use crate::place_cond::place_cond;
 use crate::program::Program;
 use crate::row::Row;
-use crate::solve_error::SolveError;
 use crate::unify_all::unify_all;
 use crate::ways::Ways;
 use lps_facts::Facts;
+use lps_model::Levels;
 use lps_terms::{Atom, Cond, Lit, Term};
 use lps_unify::Bindings;
-use std::alloc::Global;
+use std::alloc::{AllocError, Global};
 use std::collections::BTreeSet;
 
-/// The clauses and the facts that a search goes by.
+/// The clauses and the facts that a search goes by. The levels tell how far down it may go.
 #[derive(Clone, Copy)]
 pub(crate) struct Search<'a> {
     pub alloc: Global,
     pub program: &'a Program,
     pub facts: &'a Facts,
+    pub levels: &'a Levels,
 }
 
 /// How many symbols the arguments of an atom of an instance may have together.
@@ -46,25 +50,23 @@ const MOST_IN_ARGUMENTS: u64 = 1023;
 #[cycle(search)]
 fn solve(
     search: &Search<'_>,
-    fuel: u64,
     goal: &Atom,
     bindings: &mut Bindings,
-) -> Result<BTreeSet<Row>, SolveError>
-    requires sound { IsSound search.now.program.now (members search.now.facts.now) }
+) -> Result<BTreeSet<Row>, AllocError>
+    requires sound { IsSearched search.now.program.now search.now.levels.now (members search.now.facts.now) }
     requires within { AreWithin (count_of bindings.now) goal.now.args }
     requires resolved { map (put (standing bindings.now).value) goal.now.args ≡ goal.now.args }
-    ensures found { IfOk result (λ found. Finds search.now.program.now (members search.now.facts.now) bindings.old goal.now found.keys) }
+    requires small { atom_symbols_of goal.now ≤ 1024 }
+    requires marked { IsMarked (declarations search.now.program.now) goal.now }
+    ensures found { IfOk result (λ found. Finds (clauses search.now.program.now) (members search.now.facts.now) bindings.old goal.now found.keys) }
     ensures same { bindings.new ≡ bindings.old }
 {
-    if fuel == 0 {
-        return Err(SolveError::TooDeep);
-    }
     bindings.lawful();
     let mut found = BTreeSet::new(search.alloc);
     add_facts(search.alloc, search.facts, goal, &mut found)?;
     for place in search.program.places(&goal.name) {
         let clause = search.program.clause(*place);
-        by_clause(search, fuel - 1, clause, goal, bindings, &mut found)?;
+        by_clause(search, clause, goal, bindings, &mut found)?;
     }
     Ok(found)
 }
@@ -73,20 +75,23 @@ fn solve(
 #[cycle(search)]
 fn by_clause(
     search: &Search<'_>,
-    fuel: u64,
     clause: &Clause,
     goal: &Atom,
     bindings: &mut Bindings,
     found: &mut BTreeSet<Row>,
-) -> Result<(), SolveError>
-    requires sound { IsSound search.now.program.now (members search.now.facts.now) }
+) -> Result<(), AllocError>
+    requires sound { IsSearched search.now.program.now search.now.levels.now (members search.now.facts.now) }
     requires within { AreWithin (count_of bindings.now) goal.now.args }
     requires variables { AreBelow clause.now.variables 0 (clause_vars (clause_of clause.now)) }
-    ensures found { OnOk result (GainsBy search.now.program.now found.old.keys found.new.keys (λ level. ByClause search.now.program.now (members search.now.facts.now) level u64.MAX bindings.old (clause_of clause.now) goal.now)) }
+    requires among { Contains (clauses search.now.program.now) (clause_of clause.now) }
+    requires named { clause.now.head.name ≡ goal.now.name }
+    requires small { atom_symbols_of goal.now ≤ 1024 }
+    requires marked { IsMarked (declarations search.now.program.now) goal.now }
+    ensures found { OnOk result (GainsBy (clauses search.now.program.now) found.old.keys found.new.keys (λ level. ByClause (clauses search.now.program.now) (members search.now.facts.now) level u64.MAX bindings.old (clause_of clause.now) goal.now)) }
     ensures same { bindings.new ≡ bindings.old }
 {
     let mark = bindings.mark();
-    let done = enter(search, fuel, clause, goal, bindings, found);
+    let done = enter(search, clause, goal, bindings, found);
     bindings.undo_to(&mark);
     done
 }
@@ -94,22 +99,25 @@ fn by_clause(
 #[cycle(search)]
 fn enter(
     search: &Search<'_>,
-    fuel: u64,
     clause: &Clause,
     goal: &Atom,
     bindings: &mut Bindings,
     found: &mut BTreeSet<Row>,
-) -> Result<(), SolveError>
-    requires sound { IsSound search.now.program.now (members search.now.facts.now) }
+) -> Result<(), AllocError>
+    requires sound { IsSearched search.now.program.now search.now.levels.now (members search.now.facts.now) }
     requires within { AreWithin (count_of bindings.now) goal.now.args }
     requires variables { AreBelow clause.now.variables 0 (clause_vars (clause_of clause.now)) }
-    ensures found { OnOk result (GainsBy search.now.program.now found.old.keys found.new.keys (λ level. ByClause search.now.program.now (members search.now.facts.now) level u64.MAX bindings.old (clause_of clause.now) goal.now)) }
+    requires among { Contains (clauses search.now.program.now) (clause_of clause.now) }
+    requires named { clause.now.head.name ≡ goal.now.name }
+    requires small { atom_symbols_of goal.now ≤ 1024 }
+    requires marked { IsMarked (declarations search.now.program.now) goal.now }
+    ensures found { OnOk result (GainsBy (clauses search.now.program.now) found.old.keys found.new.keys (λ level. ByClause (clauses search.now.program.now) (members search.now.facts.now) level u64.MAX bindings.old (clause_of clause.now) goal.now)) }
     ensures extended { IsLonger bindings.old bindings.new }
 {
     bindings.lawful();
     let variables = match room_for(bindings.count(), clause.variables) {
         Some(variables) => variables,
-        None => return Err(SolveError::NoMemory),
+        None => return Err(AllocError),
     };
     let base = bindings.extend(variables)?;
     let own = clause.head.args.as_slice();
@@ -120,10 +128,10 @@ fn enter(
         return Ok(());
     }
     if unify_all(bindings, wanted, pattern)? {
+        bindings.lawful();
         let conds = clause.conds.as_slice();
         run(
             search,
-            fuel,
             conds,
             base,
             wanted,
@@ -140,39 +148,28 @@ fn enter(
 #[cycle(search)]
 pub(crate) fn run(
     search: &Search<'_>,
-    fuel: u64,
     conds: &[Cond],
     base: u32,
     wanted: &[Term],
     room: u64,
     bindings: &mut Bindings,
     found: &mut BTreeSet<Row>,
-) -> Result<(), SolveError>
-    requires sound { IsSound search.now.program.now (members search.now.facts.now) }
+) -> Result<(), AllocError>
+    requires sound { IsSearched search.now.program.now search.now.levels.now (members search.now.facts.now) }
     requires within { AreWithin (count_of bindings.now) wanted.now }
     requires below { AreBelow (count_of bindings.now) base (flat_map cond_vars conds.now) }
-    ensures found { OnOk result (GainsBy search.now.program.now found.old.keys found.new.keys (λ level. Reaches search.now.program.now (members search.now.facts.now) level u64.MAX room bindings.old base conds.now wanted.now)) }
+    requires moded { IsModedRun search.now.program.now bindings.now base conds.now wanted.now }
+    ensures found { OnOk result (GainsBy (clauses search.now.program.now) found.old.keys found.new.keys (λ level. Reaches (clauses search.now.program.now) (members search.now.facts.now) level u64.MAX room bindings.old base conds.now wanted.now)) }
     ensures same { bindings.new ≡ bindings.old }
 {
-    if fuel == 0 {
-        return Err(SolveError::TooDeep);
-    }
+    bindings.lawful();
     match conds.split_first() {
         Some((cond, rest)) => {
-            let ways = meet(search, fuel - 1, cond, base, bindings)?;
+            let ways = meet(search, cond, base, bindings)?;
             let terms = ways.terms.as_slice();
             for row in ways.rows.as_slice() {
                 step(
-                    search,
-                    fuel - 1,
-                    rest,
-                    base,
-                    wanted,
-                    room,
-                    terms,
-                    row,
-                    bindings,
-                    found,
+                    search, rest, base, wanted, room, terms, row, bindings, found,
                 )?;
             }
             Ok(())
@@ -185,19 +182,19 @@ pub(crate) fn run(
 #[cycle(search)]
 fn meet(
     search: &Search<'_>,
-    fuel: u64,
     cond: &Cond,
     base: u32,
     bindings: &mut Bindings,
-) -> Result<Ways, SolveError>
-    requires sound { IsSound search.now.program.now (members search.now.facts.now) }
+) -> Result<Ways, AllocError>
+    requires sound { IsSearched search.now.program.now search.now.levels.now (members search.now.facts.now) }
     requires below { AreBelow (count_of bindings.now) base (cond_vars cond.now) }
-    ensures met { IfOk result (λ ways. MeetsBy search.now.program.now (members search.now.facts.now) bindings.old (λ s. put_cond (λ v. s (base + v)) cond.now) ways) }
+    requires ready { IsReadyCond (declarations search.now.program.now) (put_cond (values_in bindings.now base) cond.now) }
+    ensures met { IfOk result (λ ways. MeetsBy (clauses search.now.program.now) (members search.now.facts.now) bindings.old (λ s. put_cond (λ v. s (base + v)) cond.now) ways) }
     ensures same { bindings.new ≡ bindings.old }
 {
     bindings.lawful();
     match place_cond(search.alloc, bindings, base, cond)? {
-        Some(Cond::Lit(lit)) => meet_literal(search, fuel, lit, bindings),
+        Some(Cond::Lit(lit)) => meet_literal(search, lit, bindings),
         Some(Cond::Built(built)) => ways_to_meet(search.alloc, built),
         None => Ok(Ways::never(search.alloc)),
     }
@@ -205,27 +202,23 @@ fn meet(
 
 /// How a literal into which the bindings were put is met.
 #[cycle(search)]
-fn meet_literal(
-    search: &Search<'_>,
-    fuel: u64,
-    lit: Lit,
-    bindings: &mut Bindings,
-) -> Result<Ways, SolveError>
-    requires sound { IsSound search.now.program.now (members search.now.facts.now) }
+fn meet_literal(search: &Search<'_>, lit: Lit, bindings: &mut Bindings) -> Result<Ways, AllocError>
+    requires sound { IsSearched search.now.program.now search.now.levels.now (members search.now.facts.now) }
     requires within { AreWithin (count_of bindings.now) lit.atom.args }
     requires resolved { map (put (standing bindings.now).value) lit.atom.args ≡ lit.atom.args }
     requires small { atom_symbols_of lit.atom ≤ 1024 }
-    ensures met { IfOk result (λ ways. MeetsBy search.now.program.now (members search.now.facts.now) bindings.old (λ s. put_cond s (Condition.Lit lit)) ways) }
+    requires ready { needs_of (declarations search.now.program.now) lit.negated lit.atom ≡ [] }
+    ensures met { IfOk result (λ ways. MeetsBy (clauses search.now.program.now) (members search.now.facts.now) bindings.old (λ s. put_cond s (Condition.Lit lit)) ways) }
     ensures same { bindings.new ≡ bindings.old }
 {
     if lit.negated {
         if !are_ground(lit.atom.args.as_slice()) {
-            return Err(SolveError::Unknown);
+            return Ok(Ways::never(search.alloc));
         }
-        let found = solve(search, fuel, &lit.atom, bindings)?;
+        let found = solve(search, &lit.atom, bindings)?;
         Ok(Ways::when(search.alloc, found.is_empty())?)
     } else {
-        let found = solve(search, fuel, &lit.atom, bindings)?;
+        let found = solve(search, &lit.atom, bindings)?;
         let rows = rows_of(search.alloc, found)?;
         let terms = lit.atom.args;
         Ok(Ways { terms, rows })
@@ -236,7 +229,6 @@ fn meet_literal(
 #[cycle(search)]
 fn step(
     search: &Search<'_>,
-    fuel: u64,
     conds: &[Cond],
     base: u32,
     wanted: &[Term],
@@ -245,18 +237,19 @@ fn step(
     row: &Row,
     bindings: &mut Bindings,
     found: &mut BTreeSet<Row>,
-) -> Result<(), SolveError>
-    requires sound { IsSound search.now.program.now (members search.now.facts.now) }
+) -> Result<(), AllocError>
+    requires sound { IsSearched search.now.program.now search.now.levels.now (members search.now.facts.now) }
     requires within { AreWithin (count_of bindings.now) wanted.now }
     requires below { AreBelow (count_of bindings.now) base (flat_map cond_vars conds.now) }
     requires terms { AreWithin (count_of bindings.now) terms.now }
     requires ground { AreGround row.now }
-    ensures found { OnOk result (GainsBy search.now.program.now found.old.keys found.new.keys (λ level. ReachesBy search.now.program.now (members search.now.facts.now) level u64.MAX room bindings.old base conds.now wanted.now terms.now row.now)) }
+    requires moded { IsModedStep search.now.program.now bindings.now base conds.now wanted.now terms.now row.now }
+    ensures found { OnOk result (GainsBy (clauses search.now.program.now) found.old.keys found.new.keys (λ level. ReachesBy (clauses search.now.program.now) (members search.now.facts.now) level u64.MAX room bindings.old base conds.now wanted.now terms.now row.now)) }
     ensures same { bindings.new ≡ bindings.old }
 {
     let mark = bindings.mark();
     let done = bound(
-        search, fuel, conds, base, wanted, room, terms, row, bindings, found,
+        search, conds, base, wanted, room, terms, row, bindings, found,
     );
     bindings.undo_to(&mark);
     done
@@ -265,7 +258,6 @@ fn step(
 #[cycle(search)]
 fn bound(
     search: &Search<'_>,
-    fuel: u64,
     conds: &[Cond],
     base: u32,
     wanted: &[Term],
@@ -274,21 +266,24 @@ fn bound(
     row: &Row,
     bindings: &mut Bindings,
     found: &mut BTreeSet<Row>,
-) -> Result<(), SolveError>
-    requires sound { IsSound search.now.program.now (members search.now.facts.now) }
+) -> Result<(), AllocError>
+    requires sound { IsSearched search.now.program.now search.now.levels.now (members search.now.facts.now) }
     requires within { AreWithin (count_of bindings.now) wanted.now }
     requires below { AreBelow (count_of bindings.now) base (flat_map cond_vars conds.now) }
     requires terms { AreWithin (count_of bindings.now) terms.now }
     requires ground { AreGround row.now }
-    ensures found { OnOk result (GainsBy search.now.program.now found.old.keys found.new.keys (λ level. ReachesBy search.now.program.now (members search.now.facts.now) level u64.MAX room bindings.old base conds.now wanted.now terms.now row.now)) }
+    requires moded { IsModedStep search.now.program.now bindings.now base conds.now wanted.now terms.now row.now }
+    ensures found { OnOk result (GainsBy (clauses search.now.program.now) found.old.keys found.new.keys (λ level. ReachesBy (clauses search.now.program.now) (members search.now.facts.now) level u64.MAX room bindings.old base conds.now wanted.now terms.now row.now)) }
     ensures extended { IsLonger bindings.old bindings.new }
 {
     let values = row.terms();
     if terms.len() != values.len() {
         return Ok(());
     }
+    bindings.lawful();
     if unify_all(bindings, terms, values)? {
-        run(search, fuel, conds, base, wanted, room, bindings, found)
+        bindings.lawful();
+        run(search, conds, base, wanted, room, bindings, found)
     } else {
         Ok(())
     }

@@ -1,4 +1,4 @@
-use crate::Program;
+use crate::clauses::Clauses;
 use lps_terms::{Atom, Body, Name, Statement, Text};
 use sqlite_items::Items;
 use std::alloc::Global;
@@ -38,9 +38,9 @@ fn clauses_are_found_by_name(rt: HostRuntime) -> Result<(), Fail> {
     add(alloc, &mut text, "p")?;
     add(alloc, &mut text, "q")?;
     add(alloc, &mut text, "p")?;
-    let program = Program::new(alloc, &text)?;
-    assert_eq!(rt; program.places(&name(alloc, "p")?), [0, 2].as_slice());
-    assert_eq!(rt; program.places(&name(alloc, "q")?), [1].as_slice());
-    assert!(rt; program.places(&name(alloc, "r")?).is_empty());
+    let clauses = Clauses::new(alloc, &text)?;
+    assert_eq!(rt; clauses.places(&name(alloc, "p")?), [0, 2].as_slice());
+    assert_eq!(rt; clauses.places(&name(alloc, "q")?), [1].as_slice());
+    assert!(rt; clauses.places(&name(alloc, "r")?).is_empty());
     Ok(())
 }

@@ -106,8 +106,8 @@ fn note_terms(terms: &[Term], variables: &mut BTreeSet<u32>) -> Result<(), Alloc
     Ok(())
 }
 
-/// Notes the variables of a condition.
-pub(crate) fn note_cond(cond: &Cond, variables: &mut BTreeSet<u32>) -> Result<(), AllocError>
+/// Puts the variables of a condition into the set. The only error is that memory ran out.
+pub fn note_cond(cond: &Cond, variables: &mut BTreeSet<u32>) -> Result<(), AllocError>
     ensures { OnOk result (variables.new.keys ≡ with_vars variables.old.keys (cond_vars cond.now)) }
 {
     match cond {

@@ -1,38 +1,12 @@
-use Rattle.std.proofs.Common.{◌≡◌, ◌∙◌, ◌↔◌, List, map, sym, subst}
-use Rattle.std.specs.Prelude.{Contains}
-use Rattle.std.specs.List.Sorted.{IsStrictlySortedBy}
-use Rattle.std.specs.Cmp.Lexicographic.{slice_cmp}
-use Rattle.lps_terms.specs.Order.{term_cmp}
-use Rattle.lps_terms.specs.declared.term.Term.{Term}
-use Rattle.lps_terms.specs.declared.term.Term.TheVariants.{Var}
-use Rattle.lps_facts.specs.Facts.{members}
-use Rattle.lps_solve.specs.Answers.{AreLarge, IsAnswer, variables_left}
-use Rattle.lps_solve.specs.Found.{GainsBy, Reaches}
-use Rattle.lps_solve.proofs.Answering.{answered, none_answered, none_sorted, no_values, wanted_within}
-use Rattle.lps_solve.proofs.Placing.{none_is, some_is}
+use Rattle.std.proofs.Common.{subst}
+use Rattle.lps_terms.specs.declared.text.Text.{Text}
+use Rattle.lps_model.specs.Levels.{AreLevelsOf}
 use Rattle.lps_solve.proofs.answer.answers.Goals as goal
 
-pub run-requires : goal.run-requires
-run-requires c = record {
-  sound = c.requires.sound;
-  within = wanted_within c.args.bindings.now c.lawful.ensures c.args.conds.now c.requires.below c.as_slice.result.now
-      (c.as_slice.ensures ∙ some_is c.in_ok-wanted.field-0 (AreLarge c.args.bindings.now c.args.conds.now) (λ (wanted : List Term). wanted ≡ map (λ v. Var v) (variables_left c.args.bindings.now c.args.conds.now)) c.in-Some.wanted c.in-Some.is c.in_ok-wanted.ensures);
-  below = c.requires.below;
+pub answers_by-requires-clause-sound : goal.answers_by-requires-clause-sound
+answers_by-requires-clause-sound c = record {
+  ground = c.requires.ground;
+  accepted = c.lawful.ensures.accepted;
+  formed = c.lawful.ensures.formed;
+  levelled = (subst (λ (text : Text). AreLevelsOf text c.levels.result.now) c.text-text.ensures c.levels.ensures).levelled;
 }
-
-pub returns-in_ok-values_of-in-Some-clause-answers : goal.returns-in_ok-values_of-in-Some-clause-answers
-returns-in_ok-values_of-in-Some-clause-answers c = λ level levels x.
-    let wanted = c.as_slice.ensures ∙ some_is c.in_ok-wanted.field-0 (AreLarge c.args.bindings.now c.args.conds.now) (λ (wanted : List Term). wanted ≡ map (λ v. Var v) (variables_left c.args.bindings.now c.args.conds.now)) c.in-Some.wanted c.in-Some.is c.in_ok-wanted.ensures in
-    subst (λ (rows : List (List Term)). Contains rows x ↔ IsAnswer c.args.program.now (members c.args.facts.now) level c.args.bindings.now c.args.conds.now x) (sym c.in_ok-values_of-in-Some.ensures.all)
-    (answered c.args.program.now (members c.args.facts.now) 18446744073709551615 c.args.bindings.now c.args.conds.now c.as_slice.result.now wanted c.run.new.found.keys
-    (subst (λ (rows : List (List Term)). GainsBy c.args.program.now rows c.run.new.found.keys (λ other. Reaches c.args.program.now (members c.args.facts.now) other 18446744073709551615 18446744073709551615 c.args.bindings.now 0 c.args.conds.now c.as_slice.result.now)) c.new-found.ensures.empty c.in_ok-run-in-Some.ensures.found)
-    level levels x)
-
-pub returns-in-None-clause-answers : goal.returns-in-None-clause-answers
-returns-in-None-clause-answers c = λ level levels x.
-    let large = none_is c.in_ok-wanted.field-0 (AreLarge c.args.bindings.now c.args.conds.now) (λ (wanted : List Term). wanted ≡ map (λ v. Var v) (variables_left c.args.bindings.now c.args.conds.now)) c.in-None.is c.in_ok-wanted.ensures in
-    subst (λ (rows : List (List Term)). Contains rows x ↔ IsAnswer c.args.program.now (members c.args.facts.now) level c.args.bindings.now c.args.conds.now x) (sym (no_values c.new.result.items c.new.ensures.items))
-    (none_answered c.args.program.now (members c.args.facts.now) c.args.bindings.now c.lawful-in-None.ensures c.args.conds.now large level levels x)
-
-pub returns-in-None-clause-sorted : goal.returns-in-None-clause-sorted
-returns-in-None-clause-sorted c = subst (λ (rows : List (List Term)). IsStrictlySortedBy (slice_cmp term_cmp) rows) (sym (no_values c.new.result.items c.new.ensures.items)) none_sorted

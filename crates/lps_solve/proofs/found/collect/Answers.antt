@@ -5,7 +5,7 @@ use Rattle.lps_terms.specs.Symbols.{symbols_of_all}
 use Rattle.lps_derivation.specs.Ground.{is_ground}
 use Rattle.lps_solve.specs.Found.{Gains, IsResolvedRow}
 use Rattle.lps_solve.proofs.Gaining.{Gains-none}
-use Rattle.lps_solve.proofs.Collected.{too_large_item, more_terms, too_many, row_found}
+use Rattle.lps_solve.proofs.Collected.{no_ground_row, too_large_item, more_terms, too_many, row_found}
 use Rattle.lps_solve.proofs.found.collect.Goals as goal
 
 pub returns-then-not-fits : goal.returns-then-not-fits
@@ -33,3 +33,9 @@ returns c =
     row_found 18446744073709551615 c.args.room c.args.bindings.now c.lawful.ensures c.args.wanted.now c.loop-term.terms c.loop-term.term-index (omega arith) c.loop-term.invariant.all ground
     (omega (arith, c.symbols_of_all.ensures, ap symbols_of_all c.as_slice-2.ensures)) c.loop-term.invariant.small c.args.found.now.keys c.insert.new.found.keys
     (subst (λ (row : List Term). Gains c.args.found.now.keys c.insert.new.found.keys (λ x. x ≡ row)) c.new.ensures c.in_ok-insert.ensures)
+
+pub returns-then-not-are_ground : goal.returns-then-not-are_ground
+returns-then-not-are_ground c =
+    Gains-none c.args.found.now.keys (IsResolvedRow 18446744073709551615 c.args.room c.args.bindings.now c.args.wanted.now)
+    (no_ground_row 18446744073709551615 c.args.room c.args.bindings.now c.lawful.ensures c.args.wanted.now c.loop-term.terms c.loop-term.term-index (omega arith) c.loop-term.invariant.all c.requires.closed
+    (ap (list_all is_ground) (sym c.as_slice.ensures) ∙ sym c.are_ground.ensures ∙ c.if-not-are_ground.true))

@@ -3,7 +3,7 @@ use Rattle.std.specs.List.{AllByRecursion, flat_map}
 use Rattle.lps_model.specs.VariableLists.{args_vars, cond_vars}
 use Rattle.lps_solve.proofs.Collecting.{both_below}
 use Rattle.lps_solve.proofs.Tables.{table_more}
-use Rattle.lps_solve.proofs.program.Program.with_clause.Goals as goal
+use Rattle.lps_solve.proofs.clauses.Clauses.with_clause.Goals as goal
 
 pub invariant_of-result : goal.invariant_of-result
 invariant_of-result c =
