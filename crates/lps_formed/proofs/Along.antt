@@ -71,7 +71,7 @@ dot_is_stop so_far kind.Number text form = refl
 dot_is_stop so_far kind.Sign text form = sign_dot text form
 
 -- under names of its statement with which its own go on
-tok_formed : (so_far names : Names) (kind : TokenKind) (text : List ℕ) → HasForm kind text → IsWithinLimit kind text → GoesOn (entered so_far kind text) names →
+pub tok_formed : (so_far names : Names) (kind : TokenKind) (text : List ℕ) → HasForm kind text → IsWithinLimit kind text → GoesOn (entered so_far kind text) names →
     IsFormedTok (length names.names) (length names.times) (tok_of so_far kind text)
 tok_formed so_far names kind.Name text form limit on = form_proper text limit form
 tok_formed so_far names kind.Reserved text form limit on = plain_formed _ _ (reserved_tok text) (reserved_plain text form)

@@ -1,3 +1,4 @@
 mod Along
 mod Trees
 mod Texts
+mod Lines

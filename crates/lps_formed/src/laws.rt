@@ -1,8 +1,13 @@
-//! What holds of each text that was read, as the contract of a function that does nothing.
+//! What holds of each text and each line of a stream that was read, as the contracts of functions that do nothing.
 ghost use Rattle.std.specs.Prelude.{ℕ, ◌≤◌, List, length, IsTrue};
+ghost use Rattle.std.specs.List.{AllByRecursion, list_all};
 ghost use Rattle.lps_terms.specs.declared.text.Text.{Text};
+ghost use Rattle.lps_terms.specs.Names.{is_proper_name};
+ghost use Rattle.lps_model.specs.declared.batch.Batch.{Batch};
 ghost use Rattle.lps_model.specs.Formed.{is_formed};
 ghost use Rattle.lps_model.specs.Program.{declarations};
+ghost use Rattle.lps_derivation.specs.Ground.{is_ground};
+ghost use Rattle.lps_batches.specs.Lines.{IsBatchLine};
 ghost use Rattle.lps_reader.specs.Texts.{IsTextOf};
 
 /// A text that was read has only names that a text may give, each function with 1 to 64 arguments, integers of 64 bits,
@@ -11,4 +16,9 @@ ghost use Rattle.lps_reader.specs.Texts.{IsTextOf};
 pub fn read_texts_are_formed()
     ensures formed { (bytes : List ℕ) (text : Text) → IsTextOf bytes text → IsTrue (is_formed text) }
     ensures few { (bytes : List ℕ) (text : Text) → IsTextOf bytes text → length (declarations text) ≤ 1048576 }
+{}
+
+/// The events of a line that is read as a batch have no variables: each has a name that a text may give, and ground arguments.
+pub fn read_events_are_ground()
+    ensures { (line : List ℕ) (batch : Batch) → IsBatchLine line batch → AllByRecursion (λ event. IsTrue (is_proper_name event.name) × IsTrue (list_all is_ground event.args)) batch.events }
 {}

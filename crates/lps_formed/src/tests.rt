@@ -1,6 +1,7 @@
-use crate::read_texts_are_formed;
+use crate::{read_events_are_ground, read_texts_are_formed};
 
 #[test]
-fn law_does_nothing() {
+fn laws_do_nothing() {
     read_texts_are_formed();
+    read_events_are_ground();
 }
