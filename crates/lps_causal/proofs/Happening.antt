@@ -1,0 +1,238 @@
+-- What events do not change: in a set of fluents together with events, exactly the events are true among the events, and all
+-- else is true where it is over the fluents alone.
+use Rattle.std.proofs.Common.{ℕ, zero, suc, Bool, true, false, ◌≡◌, List, [], ◌∷◌, refl, sym, ap, ◌∙◌, inl, inr}
+use Rattle.std.specs.Prelude.{◌⊎◌, ◌↔◌, Contains, Option, Some, None}
+use Rattle.std.specs.List.{AllByRecursion}
+use Rattle.lps_terms.specs.declared.atom.Atom.{Atom}
+use Rattle.lps_terms.specs.declared.cond.Cond.{Cond}
+use Rattle.lps_terms.specs.declared.cond.Cond.TheVariants as c
+use Rattle.lps_terms.specs.declared.kind.Kind.{Kind}
+use Rattle.lps_terms.specs.declared.kind.Kind.TheVariants as k
+use Rattle.lps_terms.specs.declared.lit.Lit.{Lit}
+use Rattle.lps_terms.specs.declared.text.Text.{Text}
+use Rattle.lps_values.specs.Truth.{is_true}
+use Rattle.lps_model.specs.declared.place.Place.TheVariants.{Condition, Effect, Head, Initial, TimelessCondition, Trigger}
+use Rattle.lps_model.specs.declared.trace.Trace.{Trace}
+use Rattle.lps_model.specs.Acceptance.{IsAccepted}
+use Rattle.lps_model.specs.KindRefusals.{may_stand}
+use Rattle.lps_model.specs.Occurrences.{place_under}
+use Rattle.lps_model.specs.Order.{happens}
+use Rattle.lps_model.specs.Program.{Law, laws}
+use Rattle.lps_model.specs.Run.{AreInitial}
+use Rattle.lps_model.proofs.Elements.{first_is_contained, later_is_contained}
+use Rattle.lps_derivation.specs.Clauses.{clauses}
+use Rattle.lps_derivation.specs.Derivation.{IsMet, of_fact}
+use Rattle.lps_derivation.specs.Laws.{Passes, IsDerivedFrom}
+use Rattle.lps_derivation.specs.Levels.{AreClosed, IsDefined}
+use Rattle.lps_derivation.proofs.Reach.{same_reached}
+use Rattle.lps_derivation.proofs.Trees.{only_fact}
+use Rattle.lps_meaning.specs.Holds.{Causes, Holds, IsTrueOver}
+use Rattle.lps_meaning.specs.Rules.{kind_of}
+use Rattle.lps_meaning.proofs.Persistence.{agrees_same, start_law, update_law}
+use Rattle.lps_causal.specs.Names.{AreEvents, AreFluents}
+use Rattle.lps_causal.proofs.Placed.{condition_kind, event_kind, fluent_kind, head_kind, initial_kind, law_condition_kind}
+
+-- ---- kinds
+
+-- the name of a fluent, a derived or a timeless predicate, which conditions are made of
+abbrev pub is_condition : Option Kind → Bool
+is_condition (Some k.Fluent) = true
+is_condition (Some k.Derived) = true
+is_condition (Some k.Timeless) = true
+is_condition _ = false
+
+-- the name of a timeless predicate
+abbrev pub is_timeless : Option Kind → Bool
+is_timeless (Some k.Timeless) = true
+is_timeless _ = false
+
+of_condition : (kind : Kind) → may_stand Condition kind ≡ true → is_condition (Some kind) ≡ true
+of_condition k.Fluent h = refl
+of_condition k.Derived h = refl
+of_condition k.Timeless h = refl
+of_condition k.Event h = absurd (cc)
+of_condition k.Action h = absurd (cc)
+of_condition k.Macro h = absurd (cc)
+
+of_event : (kind : Kind) → may_stand Trigger kind ≡ true → happens (Some kind) ≡ true
+of_event k.Event h = refl
+of_event k.Action h = refl
+of_event k.Fluent h = absurd (cc)
+of_event k.Derived h = absurd (cc)
+of_event k.Timeless h = absurd (cc)
+of_event k.Macro h = absurd (cc)
+
+of_timeless : (kind : Kind) → may_stand TimelessCondition kind ≡ true → (is_condition (Some kind) ≡ true) × (is_timeless (Some kind) ≡ true)
+of_timeless k.Timeless h = (refl, refl)
+of_timeless k.Fluent h = absurd (cc)
+of_timeless k.Derived h = absurd (cc)
+of_timeless k.Event h = absurd (cc)
+of_timeless k.Action h = absurd (cc)
+of_timeless k.Macro h = absurd (cc)
+
+of_clause : (head : Option Kind) (kind : Kind) → may_stand (place_under head) kind ≡ true → is_condition (Some kind) ≡ true
+of_clause None kind h = of_condition kind h
+of_clause (Some k.Timeless) kind h = (of_timeless kind h).0
+of_clause (Some k.Fluent) kind h = of_condition kind h
+of_clause (Some k.Derived) kind h = of_condition kind h
+of_clause (Some k.Event) kind h = of_condition kind h
+of_clause (Some k.Action) kind h = of_condition kind h
+of_clause (Some k.Macro) kind h = of_condition kind h
+
+of_timeless_clause : (head : Option Kind) (kind : Kind) → is_timeless head ≡ true → may_stand (place_under head) kind ≡ true → is_timeless (Some kind) ≡ true
+of_timeless_clause None kind t h = absurd (cc)
+of_timeless_clause (Some k.Timeless) kind t h = (of_timeless kind h).1
+of_timeless_clause (Some k.Fluent) kind t h = absurd (cc)
+of_timeless_clause (Some k.Derived) kind t h = absurd (cc)
+of_timeless_clause (Some k.Event) kind t h = absurd (cc)
+of_timeless_clause (Some k.Action) kind t h = absurd (cc)
+of_timeless_clause (Some k.Macro) kind t h = absurd (cc)
+
+no_head : (kind : Kind) → happens (Some kind) ≡ true → may_stand Head kind ≡ true → ⊥
+no_head k.Fluent e h = cc
+no_head k.Derived e h = cc
+no_head k.Timeless e h = cc
+no_head k.Event e h = cc
+no_head k.Action e h = cc
+no_head k.Macro e h = cc
+
+only_fluent : (kind : Kind) → may_stand Effect kind ≡ true → kind ≡ k.Fluent
+only_fluent k.Fluent h = refl
+only_fluent k.Derived h = absurd (cc)
+only_fluent k.Timeless h = absurd (cc)
+only_fluent k.Event h = absurd (cc)
+only_fluent k.Action h = absurd (cc)
+only_fluent k.Macro h = absurd (cc)
+
+only_initial : (kind : Kind) → may_stand Initial kind ≡ true → kind ≡ k.Fluent
+only_initial k.Fluent h = refl
+only_initial k.Derived h = absurd (cc)
+only_initial k.Timeless h = absurd (cc)
+only_initial k.Event h = absurd (cc)
+only_initial k.Action h = absurd (cc)
+only_initial k.Macro h = absurd (cc)
+
+-- what happens is no fluent, and no condition is made of it
+pub not_both : (kind : Option Kind) → happens kind ≡ true → is_condition kind ≡ true → ⊥
+not_both None e h = cc
+not_both (Some k.Fluent) e h = cc
+not_both (Some k.Derived) e h = cc
+not_both (Some k.Timeless) e h = cc
+not_both (Some k.Event) e h = cc
+not_both (Some k.Action) e h = cc
+not_both (Some k.Macro) e h = cc
+
+-- ---- conditions
+
+-- conditions whose atoms are true over the one where they are over the other
+pub met_between : (One Two : Atom → Type 0) (conds : List Cond) → ((l : Lit) → Contains conds (c.Lit l) → One l.atom ↔ Two l.atom) →
+    AllByRecursion (IsMet (Passes is_true) One) conds → AllByRecursion (IsMet (Passes is_true) Two) conds
+met_between One Two [] same met = tt
+met_between One Two (c.Lit l ∷ conds) same met = (
+  agrees_same l.negated (One l.atom) (Two l.atom) (same l (first_is_contained (c.Lit l) conds)) met.0,
+  met_between One Two conds (λ m among. same m (later_is_contained (c.Lit l) conds (c.Lit m) among)) met.1,
+)
+met_between One Two (c.Built b ∷ conds) same met = (met.0, met_between One Two conds (λ m among. same m (later_is_contained (c.Built b) conds (c.Lit m) among)) met.1)
+
+module _ (text : Text) (accepted : IsAccepted text) where
+  -- ---- laws
+
+  -- the event of a law may happen
+  pub law_has_event : (law : Law) → Contains (laws text) law → happens (kind_of text law.event.name) ≡ true
+  law_has_event law at = let found = event_kind text accepted law at in ap happens found.is ∙ of_event found.kind found.may
+
+  -- and its conditions are made of fluents, derived and timeless predicates
+  pub law_has_conditions : (law : Law) → Contains (laws text) law → (l : Lit) → Contains law.conds (c.Lit l) → is_condition (kind_of text l.atom.name) ≡ true
+  law_has_conditions law at l among = let found = law_condition_kind text accepted law at l among in ap is_condition found.is ∙ of_condition found.kind found.may
+
+  -- ---- names that clauses do not leave
+
+  conditions_are_closed : AreClosed (clauses text) (λ name. is_condition (kind_of text name))
+  conditions_are_closed = record {
+    calls = λ clause l at among named.
+        let found = condition_kind text accepted clause l at among in
+        ap is_condition found.is ∙ of_clause (kind_of text clause.head.name) found.kind found.may;
+  }
+
+  timeless_are_closed : AreClosed (clauses text) (λ name. is_timeless (kind_of text name))
+  timeless_are_closed = record {
+    calls = λ clause l at among named.
+        let found = condition_kind text accepted clause l at among in
+        ap is_timeless found.is ∙ of_timeless_clause (kind_of text clause.head.name) found.kind named found.may;
+  }
+
+  -- no clause has an event or an action in its head
+  pub not_defined : (name : List ℕ) → happens (kind_of text name) ≡ true → IsDefined (clauses text) name → ⊥
+  not_defined name happening defined =
+      let found = head_kind text accepted defined.clause defined.among in
+      no_head found.kind (sym (ap happens found.is) ∙ ap (λ n. happens (kind_of text n)) defined.named ∙ happening) found.may
+
+  -- an event or an action is true where it is a fact
+  pub true_where_fact : (level : List ℕ → ℕ) (IsFact : Atom → Type 0) (a : Atom) → happens (kind_of text a.name) ≡ true → IsTrueOver text level IsFact a ↔ IsFact a
+  true_where_fact level IsFact a happening = (
+    (λ tree. only_fact (Passes is_true) (clauses text) IsFact tree (not_defined a.name happening)),
+    (λ h. of_fact h),
+  )
+
+  -- ---- fluents and events in one set
+
+  module _ (facts events both : List Atom) (fluents : AreFluents text facts) (happening : AreEvents text events)
+      (mixed : (a : Atom) → Contains both a ↔ (Contains facts a ⊎ Contains events a)) (level : List ℕ → ℕ) where
+    event_among : (a : Atom) → happens (kind_of text a.name) ≡ true → Contains facts a ⊎ Contains events a → Contains events a
+    event_among a is (inl fact) = absurd (not_both (kind_of text a.name) is (ap is_condition (fluents.each a fact).kind))
+    event_among a is (inr event) = event
+
+    fact_among : (a : Atom) → is_condition (kind_of text a.name) ≡ true → Contains facts a ⊎ Contains events a → Contains facts a
+    fact_among a is (inl fact) = fact
+    fact_among a is (inr event) = absurd (not_both (kind_of text a.name) (happening.each a event).kind is)
+
+    -- of the events and actions exactly the events of the set are true
+    pub true_events : (a : Atom) → happens (kind_of text a.name) ≡ true → IsDerivedFrom is_true (clauses text) both level a ↔ Contains events a
+    true_events a is =
+        let fact = true_where_fact level (Contains both) a is in
+        ((λ h. event_among a is ((mixed a).0 (fact.0 h))), (λ h. fact.1 ((mixed a).1 (inr h))))
+
+    -- what conditions are made of is true where it is over the fluents alone
+    pub true_before : (a : Atom) → is_condition (kind_of text a.name) ≡ true →
+        IsDerivedFrom is_true (clauses text) both level a ↔ IsDerivedFrom is_true (clauses text) facts level a
+    true_before a is =
+        same_reached (Passes is_true) (clauses text) (λ name. is_condition (kind_of text name)) conditions_are_closed (Contains both) (Contains facts)
+        (λ b named. ((λ h. fact_among b named ((mixed b).0 h)), (λ h. (mixed b).1 (inl h)))) level a is
+
+  -- ---- timeless predicates
+
+  -- what is timeless is true alike over any fluents
+  pub timeless_everywhere : (level : List ℕ → ℕ) (One Two : Atom → Type 0) → ((b : Atom) → One b → kind_of text b.name ≡ Some k.Fluent) →
+      ((b : Atom) → Two b → kind_of text b.name ≡ Some k.Fluent) → (a : Atom) → is_timeless (kind_of text a.name) ≡ true →
+      IsTrueOver text level One a ↔ IsTrueOver text level Two a
+  timeless_everywhere level One Two ones twos a is =
+      same_reached (Passes is_true) (clauses text) (λ name. is_timeless (kind_of text name)) timeless_are_closed One Two
+      (λ b named. ((λ h. absurd (no_fluent b (ones b h) named)), (λ h. absurd (no_fluent b (twos b h) named)))) level a is
+    where
+      no_fluent : (b : Atom) → kind_of text b.name ≡ Some k.Fluent → is_timeless (kind_of text b.name) ≡ true → ⊥
+      no_fluent b fluent timeless = let no : false ≡ true = sym (ap is_timeless fluent) ∙ timeless in cc
+
+  -- the initial facts are fluents
+  pub starts_with_fluents : (facts : List Atom) → AreInitial text facts → (a : Atom) → Contains facts a → kind_of text a.name ≡ Some k.Fluent
+  starts_with_fluents facts initial a among =
+      let found = initial_kind text accepted a ((initial.exact a).0 among) in
+      found.is ∙ ap Some (only_initial found.kind found.may)
+
+  -- what a law causes is a fluent
+  pub caused_is_fluent : (level : List ℕ → ℕ) (initiates : Bool) (HeldBefore : Atom → Type 0) (events : List Atom) (a : Atom) →
+      Causes text level initiates HeldBefore events a → kind_of text a.name ≡ Some k.Fluent
+  caused_is_fluent level initiates HeldBefore events a h =
+      let law : Law = h.of_text.law in
+      let found = fluent_kind text accepted law h.of_text.in_text in
+      let named : law.fluent.name ≡ a.name = sym (ap (λ (i : Law). i.fluent.name) h.of_text.put_in) ∙ ap (λ (b : Atom). b.name) h.effect in
+      ap (kind_of text) (sym named) ∙ found.is ∙ ap Some (only_fluent found.kind found.may)
+
+  -- what holds in a state is a fluent, where it is at the start
+  pub holds_is_fluent : (level : List ℕ → ℕ) (trace : Trace) → ((a : Atom) → Contains trace.initial a → kind_of text a.name ≡ Some k.Fluent) →
+      (i : ℕ) (a : Atom) → Holds text level trace i a → kind_of text a.name ≡ Some k.Fluent
+  holds_is_fluent level trace start zero a h = start a ((start_law text level trace a).0 h)
+  holds_is_fluent level trace start (suc i) a h =
+      elim ((update_law text level trace a i).0 h) [
+        | inl caused ↦ caused_is_fluent level true (Holds text level trace i) _ a caused
+        | inr held ↦ holds_is_fluent level trace start i a held.0
+      ]

@@ -1,0 +1,13 @@
+pub mod Placed
+pub mod Happening
+pub mod States
+pub mod Occurring
+pub mod Terms
+pub mod Fresh
+pub mod Answered
+pub mod Modes
+pub mod Causing
+pub mod Gaining
+pub mod Settled
+pub mod Tables
+pub mod Steps
