@@ -1,0 +1,9 @@
+pub mod Variables
+pub mod Stated
+pub mod Sides
+pub mod Bridge
+pub mod Alike
+pub mod Modes
+pub mod Rows
+pub mod Asked
+pub mod Judging

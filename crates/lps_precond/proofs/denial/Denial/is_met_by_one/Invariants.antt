@@ -1,0 +1,10 @@
+use Rattle.std.proofs.Common.{ℕ, List, take, map}
+use Rattle.lps_facts.specs.Facts.{members}
+use Rattle.lps_derivation.specs.Clauses.{clauses}
+use Rattle.lps_derivation.specs.Levels.{AreLevels}
+use Rattle.lps_precond.specs.Rows.{LeaveSome}
+use Rattle.lps_precond.proofs.denial.Denial.is_met_by_one.Given as goal
+
+-- none of the rows so far leaves what is met
+abbrev pub invariant-loop-row : goal.invariant-loop-row
+invariant-loop-row l = (level : List ℕ → ℕ) → AreLevels (clauses l.program) level → LeaveSome (clauses l.program) (members l.facts) level l.self (map (λ v. v.0) (take l.row-index l.rows)) → ⊥

@@ -1,0 +1,66 @@
+-- Denials cut where the second of their times begins: conditions on the state before and on what is to happen, and
+-- conditions on the state after.
+use Rattle.std.specs.Prelude.{ℕ, suc, Bool, false, List, [], ◌∷◌, Option, Some, None, if◌then◌else◌, map, take, drop}
+use Rattle.std.specs.List.{flat_map}
+use Rattle.lps_terms.specs.declared.cond.Cond.{Cond}
+use Rattle.lps_terms.specs.declared.cond.Cond.TheVariants as c
+use Rattle.lps_terms.specs.declared.item.Item.{Item}
+use Rattle.lps_terms.specs.declared.item.Item.TheVariants as i
+use Rattle.lps_terms.specs.declared.text.Text.{Text}
+use Rattle.lps_model.specs.Order.{stands_at}
+use Rattle.lps_meaning.specs.Rules.{denials}
+
+-- the names of what is to happen, the conditions before the second time begins, and those from there on
+pub record Cut : Type 0 where
+  pub names : List (List ℕ)
+  pub front : List Cond
+  pub back : List Cond
+
+-- the item as a condition: what is to happen is a positive literal
+abbrev pub cond_of : Item → List Cond
+cond_of (i.At l time) = c.Lit l ∷ []
+cond_of (i.Bare l) = c.Lit l ∷ []
+cond_of (i.Built built) = c.Built built ∷ []
+cond_of (i.Span a from to) = c.Lit (record { negated = false; atom = a }) ∷ []
+cond_of (i.Con con) = []
+
+-- the items as conditions
+abbrev pub conds_of : List Item → List Cond
+conds_of items = flat_map cond_of items
+
+-- the name of what is to happen
+abbrev pub name_of : Item → List (List ℕ)
+name_of (i.Span a from to) = a.name ∷ []
+name_of _ = []
+
+-- the second time of the first item that has two
+abbrev pub second_in : List Item → Option ℕ
+second_in [] = None
+second_in (i.Span a from to ∷ items) = Some to.0
+second_in (item ∷ items) = second_in items
+
+-- the item is at the second time, where there is one
+abbrev pub is_late : Option ℕ → Item → Bool
+is_late None item = false
+is_late (Some second) item = stands_at second item
+
+-- how many items stand before the first one that is at the second time
+abbrev pub count_early : Option ℕ → List Item → ℕ
+count_early second [] = 0
+count_early second (item ∷ items) = if is_late second item then 0 else suc (count_early second items)
+
+-- the items before the first one that is at the second time
+abbrev pub front_of : List Item → List Item
+front_of items = take (count_early (second_in items) items) items
+
+-- the items from there on
+abbrev pub back_of : List Item → List Item
+back_of items = drop (count_early (second_in items) items) items
+
+-- a denial, cut
+abbrev pub cut : List Item → Cut
+cut items = record { names = flat_map name_of items; front = conds_of (front_of items); back = conds_of (back_of items) }
+
+-- the denials of a text, cut, in text order
+abbrev pub cuts : Text → List Cut
+cuts text = map cut (denials text)

@@ -1,0 +1,37 @@
+-- What is answered where events are tried.
+use Rattle.std.specs.Prelude.{◌≡◌, ◌<◌, ℕ, List, Option, Some, None, Result, Ok, Err}
+use Rattle.std.specs.declared.alloc.AllocError.{AllocError}
+use Rattle.lps_terms.specs.declared.atom.Atom.{Atom}
+use Rattle.lps_terms.specs.declared.effects.Effects.{Effects}
+use Rattle.lps_terms.specs.declared.text.Text.{Text}
+use Rattle.lps_facts.specs.Facts.{TrailedSet, with_effects}
+use Rattle.lps_model.specs.declared.trace.Trace.{Trace}
+use Rattle.lps_derivation.specs.Clauses.{Clause}
+use Rattle.lps_meaning.specs.Denials.{IsLeastViolated, ViolatesNone}
+use Rattle.lps_meaning.specs.Rules.{numbered}
+use Rattle.lps_precond.specs.Cut.{Cut}
+use Rattle.lps_precond.specs.Rows.{IsViolated}
+
+-- The least number of a denial that the events violate, where they would come after the trace; or none where they violate
+-- none.
+abbrev pub IsJudged : Text → (List ℕ → ℕ) → Trace → List Atom → Option ℕ → Type 0
+IsJudged text level trace events None = ViolatesNone text level trace events
+IsJudged text level trace events (Some k) = IsLeastViolated text level trace events k
+
+-- the facts that are left: with the effects where no denial is violated, and else as before
+abbrev pub left_by : Result (Option ℕ) AllocError → Effects → TrailedSet → TrailedSet
+left_by (Ok None) effects facts = with_effects effects facts
+left_by (Ok (Some k)) effects facts = facts
+left_by (Err error) effects facts = facts
+
+-- ---- the same over facts before and after
+
+module _ (program : List Clause) (before after : List Atom) (level : List ℕ → ℕ) (denials : List Cut) where
+  -- denial number k is violated
+  abbrev pub IsViolatedNumber : ℕ → Type 0
+  IsViolatedNumber k = (denial : Cut) × (numbered denials k ≡ Some denial) × IsViolated program before after level denial
+
+  -- no denial is, or k is the least number of one that is
+  abbrev pub IsLeast : Option ℕ → Type 0
+  IsLeast None = (k : ℕ) → IsViolatedNumber k → ⊥
+  IsLeast (Some k) = IsViolatedNumber k × ((j : ℕ) → j < k → IsViolatedNumber j → ⊥)

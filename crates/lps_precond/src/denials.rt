@@ -1,0 +1,212 @@
+ghost use Rattle.std.specs.Prelude.{◌≡◌, ℕ, true, List, length, IfOk, IsTrue, OnOk, Contains};
+ghost use Rattle.lps_terms.specs.declared.atom.Atom.{Atom as Fact};
+ghost use Rattle.lps_model.specs.declared.trace.Trace.{Trace};
+ghost use Rattle.lps_model.specs.Order.{happens};
+ghost use Rattle.lps_derivation.specs.Clauses.{clauses};
+ghost use Rattle.lps_derivation.specs.Levels.{AreLevels};
+ghost use Rattle.lps_facts.specs.Facts.{IsLater, members, with_effects, with_facts};
+ghost use Rattle.lps_meaning.specs.Reports.{IsState};
+ghost use Rattle.lps_meaning.specs.Rules.{kind_of};
+ghost use Rattle.lps_solve.specs.Met.{AreGround};
+ghost use Rattle.lps_causal.specs.Effects.{AreEffects};
+ghost use Rattle.lps_causal.specs.Names.{AreEvents, AreFluents};
+ghost use Rattle.lps_precond.specs.Cut.{cuts};
+ghost use Rattle.lps_precond.specs.Judged.{IsJudged, IsLeast, left_by};
+ghost use Rattle.lps_precond.specs.Rows.{AreAllFit, AreRowsOfAll, rows_in};
+
+use crate::denial::Denial;
+use lps_facts::Facts;
+use lps_solve::Program;
+use lps_terms::{Atom, Body, Effects, Text, Values};
+use std::alloc::{AllocError, Global};
+use std::marker::Model;
+
+/// The denials of a text, ready to be tried. Contracts see them in text order, each cut where the second of its times
+/// begins.
+#[derive(Drop)]
+pub struct Denials {
+    denials: Vec<Denial>,
+}
+
+impl Model for Denials {
+    ghost use Rattle.lps_terms.specs.contracts.expr.Expr as expr;
+    ghost use Rattle.lps_terms.specs.contracts.term.Term as term;
+    ghost use Rattle.lps_precond.specs.Cut.{Cut};
+    ghost use Rattle.std.specs.Coded.{codes};
+    ghost use Rattle.std.specs.Prelude.{◌<◌, ◌^◌, List, length};
+
+    ghost Value = { List Cut };
+
+    ghost coded = { Prim.hlevel (codes, term.the_row.coded, expr.the_row.coded) };
+
+    ghost view = { λ denials. denials.denials.items };
+
+    ghost invariant = { λ denials. length denials.denials.items < 2 ^ 32 };
+}
+
+impl Denials {
+    /// The denials of the text. An error comes where memory runs out, or where a number of a denial or a variable has no
+    /// 32 bits.
+    pub fn new(alloc: Global, text: &Text) -> Result<Denials, AllocError>
+        ensures { IfOk result (λ denials. denials ≡ cuts text.now) }
+    {
+        let mut denials = Vec::new(alloc);
+        for statement in text.statements.as_slice() {
+            if let Body::Denial(items) = &statement.body {
+                denials.push(Denial::new(alloc, items.as_slice())?)?;
+            }
+        }
+        if u32::try_from(denials.len()).is_err() {
+            return Err(AllocError);
+        }
+        Ok(Denials { denials })
+    }
+
+    /// The least number of a denial that the events violate, with the facts as before; or none where they violate none, with
+    /// the effects applied. The effects are those of the events in the state that the facts are.
+    ///
+    /// An error comes where memory runs out, and leaves the facts as before.
+    pub fn try_events(
+        &self,
+        alloc: Global,
+        program: &Program,
+        facts: &mut Facts,
+        events: &[Atom],
+        effects: Effects,
+    ) -> Result<Option<u32>, AllocError>
+        requires denials { self.now ≡ cuts program.now }
+        requires state { AreFluents program.now (members facts.now) }
+        requires events { AreEvents program.now events.now }
+        requires effects { (level : List ℕ → ℕ) → AreLevels (clauses program.now) level → AreEffects program.now level (members facts.now) events.now effects }
+        requires fluents { AreFluents program.now effects.initiated }
+        ensures judged { IfOk result (λ found. (level : List ℕ → ℕ) → AreLevels (clauses program.now) level → (trace : Trace) → IsState program.now level trace (length trace.cycles) (members facts.old) → IsJudged program.now level trace events.now found) }
+        ensures left { facts.new ≡ left_by result effects facts.old }
+        ensures later { IsLater facts.old facts.new }
+    {
+        program.lawful();
+        let mark = facts.mark();
+        match self.tried(alloc, program, facts, events, effects) {
+            Ok(None) => Ok(None),
+            Ok(Some(number)) => {
+                facts.undo_to(&mark);
+                Ok(Some(number))
+            }
+            Err(error) => {
+                facts.undo_to(&mark);
+                Err(error)
+            }
+        }
+    }
+
+    /// The least number of a denial that is violated. On an answer the effects are applied.
+    fn tried(
+        &self,
+        alloc: Global,
+        program: &Program,
+        facts: &mut Facts,
+        events: &[Atom],
+        effects: Effects,
+    ) -> Result<Option<u32>, AllocError>
+        requires denials { self.now ≡ cuts program.now }
+        requires state { AreFluents program.now (members facts.now) }
+        requires events { AreEvents program.now events.now }
+        requires fluents { AreFluents program.now effects.initiated }
+        ensures found { IfOk result (λ found. (level : List ℕ → ℕ) → AreLevels (clauses program.now) level → IsLeast (clauses program.now) (members (with_facts true events.now facts.old)) (members (with_effects effects facts.old)) level self.now found) }
+        ensures applied { OnOk result (facts.new ≡ with_effects effects facts.old) }
+        ensures later { IsLater facts.old facts.new }
+    {
+        let rows = self.rows_before(alloc, program, facts, events)?;
+        facts.apply(effects)?;
+        self.first_met(alloc, program, facts, rows.as_slice())
+    }
+
+    /// For each denial its rows over the facts together with the events.
+    fn rows_before(
+        &self,
+        alloc: Global,
+        program: &Program,
+        facts: &mut Facts,
+        events: &[Atom],
+    ) -> Result<Vec<Vec<Values>>, AllocError>
+        requires denials { self.now ≡ cuts program.now }
+        requires state { AreFluents program.now (members facts.now) }
+        requires events { AreEvents program.now events.now }
+        ensures rows { IfOk result (λ rows. AreRowsOfAll program.now (members (with_facts true events.now facts.old)) self.now (rows_in rows.items)) }
+        ensures same { facts.new ≡ facts.old }
+    {
+        let mark = facts.mark();
+        let rows = self.rows_with(alloc, program, facts, events);
+        facts.undo_to(&mark);
+        rows
+    }
+
+    /// The same, and the events stay among the facts.
+    fn rows_with(
+        &self,
+        alloc: Global,
+        program: &Program,
+        facts: &mut Facts,
+        events: &[Atom],
+    ) -> Result<Vec<Vec<Values>>, AllocError>
+        requires denials { self.now ≡ cuts program.now }
+        requires state { AreFluents program.now (members facts.now) }
+        requires events { AreEvents program.now events.now }
+        ensures rows { IfOk result (λ rows. AreRowsOfAll program.now (members (with_facts true events.now facts.old)) self.now (rows_in rows.items)) }
+        ensures later { IsLater facts.old facts.new }
+    {
+        insert_all(facts, events)?;
+        self.rows_of_all(alloc, program, facts, events)
+    }
+
+    /// For each denial its rows over the facts, among which the events are.
+    fn rows_of_all(
+        &self,
+        alloc: Global,
+        program: &Program,
+        facts: &Facts,
+        events: &[Atom],
+    ) -> Result<Vec<Vec<Values>>, AllocError>
+        requires denials { self.now ≡ cuts program.now }
+        requires ground { (a : Fact) → Contains (members facts.now) a → AreGround a.args }
+        requires happened { (a : Fact) → Contains (members facts.now) a → IsTrue (happens (kind_of program.now a.name)) → Contains events.now a }
+        ensures { IfOk result (λ rows. AreRowsOfAll program.now (members facts.now) self.now (rows_in rows.items)) }
+    {
+        let mut rows = Vec::new(alloc);
+        for denial in self.denials.as_slice() {
+            rows.push(denial.rows(alloc, program, facts, events)?)?;
+        }
+        Ok(rows)
+    }
+
+    /// The number of the first denial one of whose rows leaves what is met over the facts.
+    fn first_met(
+        &self,
+        alloc: Global,
+        program: &Program,
+        facts: &Facts,
+        rows: &[Vec<Values>],
+    ) -> Result<Option<u32>, AllocError>
+        requires denials { self.now ≡ cuts program.now }
+        requires ground { (a : Fact) → Contains (members facts.now) a → AreGround a.args }
+        requires rows { AreAllFit self.now (rows_in rows.now) }
+        ensures { IfOk result (λ found. (before : List Fact) → AreRowsOfAll program.now before self.now (rows_in rows.now) → (level : List ℕ → ℕ) → AreLevels (clauses program.now) level → IsLeast (clauses program.now) before (members facts.now) level self.now found) }
+    {
+        for i in 0..rows.len() {
+            if self.denials[i].is_met_by_one(alloc, program, facts, rows[i].as_slice())? {
+                return Ok(Some(i as u32 + 1));
+            }
+        }
+        Ok(None)
+    }
+}
+
+/// Puts in each of these, or a part of them where memory runs out.
+fn insert_all(facts: &mut Facts, events: &[Atom]) -> Result<(), AllocError>
+    ensures all { OnOk result (facts.new ≡ with_facts true events.now facts.old) }
+    ensures later { IsLater facts.old facts.new }
+{
+    for event in events {
+        facts.insert(event)?;
+    }
+    Ok(())
+}
