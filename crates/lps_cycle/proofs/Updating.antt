@@ -1,0 +1,149 @@
+-- One cycle: the events that are judged, and the facts after those that are admitted.
+use Rattle.std.proofs.Common.{ℕ, suc, ◌≡◌, ◌≤◌, ◌<◌, ◌+◌, Bool, true, false, List, [], ◌∷◌, ◌++◌, length, drop, refl, sym, ap, subst, ◌∙◌, inl, inr, Option, Some, None, arith, append_assoc}
+use Rattle.std.specs.Prelude.{◌⊎◌, ◌||◌, ◌&&◌, not, IsTrue, Contains}
+use Rattle.std.specs.List.{AllByRecursion, flat_map, list_all}
+use Rattle.std.proofs.lemmas.List.{append-nil, length-append, map-append}
+use Rattle.std.proofs.lemmas.List.Elements.{Contains-append_cases}
+use Rattle.lps_terms.specs.declared.atom.Atom.{Atom}
+use Rattle.lps_terms.specs.declared.effects.Effects.{Effects}
+use Rattle.lps_terms.specs.declared.kind.Kind.TheVariants as k
+use Rattle.lps_terms.specs.declared.text.Text.{Text}
+use Rattle.lps_model.specs.declared.cycle.Cycle.{Cycle}
+use Rattle.lps_model.specs.declared.trace.Trace.{Trace}
+use Rattle.lps_model.specs.declared.verdict.Verdict.{Verdict}
+use Rattle.lps_model.specs.declared.verdict.Verdict.TheVariants.{Admitted, Rejected}
+use Rattle.lps_model.specs.Order.{happens}
+use Rattle.lps_model.specs.Run.{IsExternal}
+use Rattle.lps_model.specs.Trace.{admitted, happens_in, if_admitted, then_cycle}
+use Rattle.lps_model.proofs.Elements.{first_or_later, nothing_contained}
+use Rattle.lps_derivation.specs.Clauses.{clauses}
+use Rattle.lps_derivation.specs.Ground.{is_ground}
+use Rattle.lps_derivation.specs.Levels.{AreLevels}
+use Rattle.lps_facts.specs.Facts.{TrailedSet, is_among, members, with_effects}
+use Rattle.lps_facts.proofs.Sequences.{members_with_effects}
+use Rattle.lps_meaning.specs.Cycles.{AreJudged, IsOutside, IsVerdict}
+use Rattle.lps_meaning.specs.Reports.{IsState}
+use Rattle.lps_meaning.specs.Rules.{kind_of, rules}
+use Rattle.lps_causal.specs.Effects.{AreEffects}
+use Rattle.lps_causal.specs.Names.{AreEvents, AreFluents, IsEvent}
+use Rattle.lps_causal.proofs.States.{next_state}
+use Rattle.lps_precond.specs.Judged.{IsJudged}
+use Rattle.lps_cycle.specs.Admission.{AreAdmitted, InState, IsUpdate, IsVerdictIn, MayCome}
+use Rattle.lps_cycle.specs.Engine.{EngineState, Stands, depth}
+use Rattle.lps_cycle.proofs.Initial.{among_contained, contained_among}
+use Rattle.lps_cycle.proofs.Runs.{plain, run_more}
+
+-- ---- which atoms are fluents, and which are events
+
+came_or_stayed : (new held gone : Bool) → (new || (held && not gone)) ≡ true → (new ≡ true) ⊎ (held ≡ true)
+came_or_stayed true held gone h = inl refl
+came_or_stayed false true gone h = inr refl
+came_or_stayed false false gone h = absurd cc
+
+fluents_after : (text : Text) (effects : Effects) (facts : TrailedSet) → AreFluents text (members facts) → AreFluents text effects.initiated → AreFluents text (members (with_effects effects facts))
+fluents_after text effects facts before new = record {
+  each = λ a at.
+      elim (came_or_stayed (is_among effects.initiated a) (is_among (members facts) a) (is_among effects.terminated a)
+      (sym (members_with_effects effects facts a) ∙ contained_among (members (with_effects effects facts)) a at)) [
+        | inl came ↦ new.each a (among_contained effects.initiated a came)
+        | inr stayed ↦ before.each a (among_contained (members facts) a stayed)
+      ];
+}
+
+pub events_none : (text : Text) → AreEvents text []
+events_none text = record { each = λ a at. absurd (nothing_contained a at) }
+
+pub events_more : (text : Text) (events : List Atom) (event : Atom) → AreEvents text events → IsEvent text event → AreEvents text (events ++ event ∷ [])
+events_more text events event are is = record {
+  each = λ a at.
+      elim (Contains-append_cases events (event ∷ []) a at) [
+        | inl before ↦ are.each a before
+        | inr here ↦ elim (first_or_later event [] a here) [ inl same ↦ subst (IsEvent text) same is | inr later ↦ absurd (nothing_contained a later) ]
+      ];
+}
+
+pub may_be_event : (text : Text) (event : Atom) → MayCome text event → IsEvent text event
+may_be_event text event may = record { ground = may.1; kind = ap happens may.0.kind }
+
+pub events_kept : (text : Text) (events : List Atom) (event : Atom) (verdict : Verdict) → AreEvents text events → IsEvent text event → AreEvents text (events ++ if_admitted verdict event)
+events_kept text events event Admitted are is = events_more text events event are is
+events_kept text events event (Rejected k) are is = subst (AreEvents text) (sym (append-nil events)) are
+
+-- ---- the update
+
+pub updated : (text : Text) (before : TrailedSet) (events : List Atom) (effects : Effects) (after : List Atom) → after ≡ members (with_effects effects before) →
+    AreFluents text (members before) → AreFluents text effects.initiated →
+    ((level : List ℕ → ℕ) → AreLevels (clauses text) level → AreEffects text level (members before) events effects) → IsUpdate text (members before) events after
+updated text before events effects after is fluents new are = record {
+  fluents = subst (AreFluents text) (sym is) (fluents_after text effects before fluents new);
+  state = λ level levels trace cycle same state.
+      subst (IsState text level (then_cycle trace cycle) (suc (length trace.cycles))) (sym is)
+      (next_state text level trace cycle before effects state (subst (λ (happened : List Atom). AreEffects text level (members before) happened effects) (sym same) (are level levels)));
+}
+
+-- ---- verdicts
+
+-- the verdict for the least denial that is violated
+abbrev verdict_for : Option ℕ → Verdict
+verdict_for None = Admitted
+verdict_for (Some k) = Rejected k
+
+pub judged_so : (text : Text) (facts before together : List Atom) (event : Atom) (found : Option ℕ) → together ≡ before ++ event ∷ [] →
+    InState text facts (λ level trace. IsJudged text level trace together found) → IsVerdictIn text facts before event (verdict_for found)
+judged_so text facts before together event None is judged level levels trace state = subst (λ (events : List Atom). IsJudged text level trace events None) is (judged level levels trace state)
+judged_so text facts before together event (Some k) is judged level levels trace state = subst (λ (events : List Atom). IsJudged text level trace events (Some k)) is (judged level levels trace state)
+
+-- ---- the events of a batch
+
+-- the events so far are judged: whatever the verdicts on the others are, they make up the verdicts on all
+pub record AreSoFar (text : Text) (facts all rest : List Atom) (verdicts : List Verdict) (kept : List Atom) : Type 0 where
+  pub judged : InState text facts (λ level trace. (more : List Verdict) → AreJudged text level depth trace kept rest more → AreJudged text level depth trace [] all (verdicts ++ more))
+  pub kept_are : (more : List Verdict) → admitted all (verdicts ++ more) ≡ kept ++ admitted rest more
+
+pub none_yet : (text : Text) (facts all : List Atom) → AreSoFar text facts all all [] []
+none_yet text facts all = record { judged = λ level levels trace state more h. h; kept_are = λ more. refl }
+
+pub one_more : (text : Text) (facts all : List Atom) (event : Atom) (rest : List Atom) (verdicts : List Verdict) (verdict : Verdict) (kept : List Atom) →
+    AreSoFar text facts all (event ∷ rest) verdicts kept → IsVerdictIn text facts kept event verdict → AreSoFar text facts all rest (verdicts ++ verdict ∷ []) (kept ++ if_admitted verdict event)
+one_more text facts all event rest verdicts verdict kept so_far is = record {
+  judged = λ level levels trace state more h.
+      subst (AreJudged text level depth trace [] all) (sym (append_assoc verdicts (verdict ∷ []) more)) (so_far.judged level levels trace state (verdict ∷ more) (is level levels trace state, h));
+  kept_are = λ more.
+      ap (admitted all) (append_assoc verdicts (verdict ∷ []) more) ∙ so_far.kept_are (verdict ∷ more) ∙ sym (append_assoc kept (if_admitted verdict event) (admitted rest more));
+}
+
+pub all_judged : (text : Text) (facts all : List Atom) (verdicts : List Verdict) (kept : List Atom) → AreSoFar text facts all [] verdicts kept → AreAdmitted text facts all verdicts kept
+all_judged text facts all verdicts kept so_far = record {
+  judged = λ level levels trace state. subst (AreJudged text level depth trace [] all) (append-nil verdicts) (so_far.judged level levels trace state [] tt);
+  kept_are = sym (ap (admitted all) (sym (append-nil verdicts)) ∙ so_far.kept_are [] ∙ append-nil kept);
+}
+
+-- ---- the next cycle of a run
+
+outside : (text : Text) (level : List ℕ → ℕ) (trace : Trace) (events : List Atom) → AllByRecursion (MayCome text) events → AllByRecursion (IsOutside text level depth trace) events
+outside text level trace [] may = tt
+outside text level trace (event ∷ events) may = (may.0, outside text level trace events may.1)
+
+pub stands_next : (before after : EngineState) (events : List Atom) (verdicts : List Verdict) (kept : List Atom) → after.text ≡ before.text → after.cycles ≡ before.cycles + 1 → before.cycles < 1000000 →
+    length events ≤ 1000 → AllByRecursion (MayCome before.text) events → AreAdmitted before.text before.facts events verdicts kept → IsUpdate before.text before.facts kept after.facts →
+    (batches : List (List Atom)) (trace : Trace) → Stands before batches trace → Stands after (batches ++ events ∷ []) (then_cycle trace (record { events = events; verdicts = verdicts; picks = [] }))
+stands_next before after events verdicts kept text_is count room few may admission update batches trace stands =
+    let cycle : Cycle = record { events = events; verdicts = verdicts; picks = [] } in
+    let text = before.text in
+    let small : length trace.cycles < 1000000 = omega (arith, stands.count) in
+    let longer : length (trace.cycles ++ cycle ∷ []) ≡ suc (length trace.cycles) = omega (arith, length-append trace.cycles (cycle ∷ [])) in
+    let happened : happens_in cycle ≡ kept = append-nil (admitted events verdicts) ∙ sym admission.kept_are in
+    let state_at : (level : List ℕ → ℕ) → AreLevels (clauses text) level → IsState text level trace (length trace.cycles) before.facts =
+    λ level levels. subst (λ n. IsState text level trace n before.facts) (sym stands.count) (stands.state level levels) in
+    let done : Stands (record { text = text; facts = after.facts; cycles = after.cycles }) (batches ++ events ∷ []) (then_cycle trace cycle) = record {
+      run = λ level levels.
+          run_more text level batches trace cycle (stands.run level levels)
+          (plain text stands.no_rules level trace events verdicts small few (outside text level trace events may) (admission.judged level levels trace (state_at level levels)));
+      events = map-append (λ (c : Cycle). c.events) trace.cycles (cycle ∷ []) ∙ ap (λ (bs : List (List Atom)). bs ++ events ∷ []) stands.events;
+      count = omega (arith, longer, count, stands.count);
+      state = λ level levels.
+          subst (λ n. IsState text level (then_cycle trace cycle) n after.facts) (let e : suc (length trace.cycles) ≡ after.cycles = omega (arith, count, stands.count) in e)
+          (update.state level levels trace cycle happened (state_at level levels));
+      no_rules = stands.no_rules;
+    } in
+    subst (λ (t : Text). Stands (record { text = t; facts = after.facts; cycles = after.cycles }) (batches ++ events ∷ []) (then_cycle trace cycle)) (sym text_is) done
