@@ -1,7 +1,7 @@
 -- How more lines are judged behind those that were taken.
 use Rattle.std.proofs.Common.{◌≡◌, ℕ, suc, ◌+◌, Bool, true, false, eqb, List, [], ◌∷◌, ◌++◌, length, Option, Some, None, refl, sym, subst, arith, append_assoc}
-use Rattle.std.specs.Prelude.{if◌then◌else◌}
-use Rattle.std.specs.List.{AllByRecursion}
+use Rattle.std.specs.Prelude.{if◌then◌else◌, IsTrue}
+use Rattle.std.specs.List.{AllByRecursion, list_all}
 use Rattle.std.proofs.lemmas.Bool.{eqb-true}
 use Rattle.lps_terms.specs.declared.atom.Atom.{Atom}
 use Rattle.lps_terms.specs.declared.kind.Kind.{Kind}
@@ -12,7 +12,10 @@ use Rattle.lps_terms.specs.declared.text.Text.{Text}
 use Rattle.lps_model.specs.declared.batch.Batch.{Batch}
 use Rattle.lps_model.specs.Declarations.{arity_among, kind_among}
 use Rattle.lps_model.specs.Program.{declarations}
+use Rattle.lps_terms.specs.Names.{is_proper_name}
 use Rattle.lps_model.specs.Run.{IsExternal}
+use Rattle.lps_derivation.specs.Ground.{is_ground}
+use Rattle.lps_cycle.specs.Admission.{MayCome}
 use Rattle.lps_batches.specs.Lines.{IsPassed}
 use Rattle.lps_batches.specs.Stream.{Skipped}
 use Rattle.lps_batches.specs.Stream as stream
@@ -80,5 +83,15 @@ external text (event ∷ events) e =
     let fits = fitting (kind_among (declarations text) event.name) (arity_among (declarations text) event.name) (length event.args) both.0 in
     (record { kind = fits.0; arity = fits.1 }, external text events both.1)
 
-pub batch_external : (text : Text) (expected : ℕ) (batch : Batch) → batch_fault text expected batch ≡ None → AllByRecursion (IsExternal text) batch.events
+batch_external : (text : Text) (expected : ℕ) (batch : Batch) → batch_fault text expected batch ≡ None → AllByRecursion (IsExternal text) batch.events
 batch_external text expected batch e = external text batch.events (neither (events_fault text batch.events) (number_fault expected batch.number) e).0
+
+-- the events of a batch that was read and has no fault may come
+may_come : (text : Text) (events : List Atom) → AllByRecursion (IsExternal text) events → AllByRecursion (λ (event : Atom). IsTrue (is_proper_name event.name) × IsTrue (list_all is_ground event.args)) events →
+    AllByRecursion (MayCome text) events
+may_come text [] e g = tt
+may_come text (event ∷ events) e g = ((e.0, g.0.1), may_come text events e.1 g.1)
+
+pub batch_may_come : (text : Text) (expected : ℕ) (batch : Batch) → batch_fault text expected batch ≡ None →
+    AllByRecursion (λ (event : Atom). IsTrue (is_proper_name event.name) × IsTrue (list_all is_ground event.args)) batch.events → AllByRecursion (MayCome text) batch.events
+batch_may_come text expected batch e g = may_come text batch.events (batch_external text expected batch e) g

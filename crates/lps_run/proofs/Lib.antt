@@ -1,7 +1,5 @@
-pub mod Among
-pub mod Tables
-pub mod Caused
-pub mod States
+pub mod Blocks
+pub mod WithoutRules
 pub mod Feeds
 pub mod Judging
 pub mod OneWay

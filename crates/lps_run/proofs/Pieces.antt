@@ -12,7 +12,7 @@ use Rattle.lps_run.proofs.Steps.{made_prints}
 
 -- a read ended the run
 read_ends : (running : Running) (stream start last rest : List ℕ) (printed : Option (List ℕ)) (before after : Option Stream) (r : Reading running stream start printed before) → r.last.left ≡ last ++ rest →
-    after ≡ Some (record { left = rest; took = length last }) → EndsAtRead running.engine.laws stream start printed after last
+    after ≡ Some (record { left = rest; took = length last }) → EndsAtRead running.engine.text stream start printed after last
 read_ends running stream start last rest printed before after r left known =
     let made = r.standing.made in
     let part = running.reader.left in
@@ -34,12 +34,12 @@ read_ends running stream start last rest printed before after r left known =
 
 -- a read that failed ends the run
 pub read_failed : (running : Running) (stream start : List ℕ) (printed : Option (List ℕ)) (before after : Option Stream) → Reading running stream start printed before →
-    ((last : Stream) → before ≡ Some last → after ≡ Some (record { left = last.left; took = 0 })) → Stopped running.engine.laws stream start printed after EventFault
+    ((last : Stream) → before ≡ Some last → after ≡ Some (record { left = last.left; took = 0 })) → Stopped running.engine.text stream start printed after EventFault
 read_failed running stream start printed before after r none = read_ends running stream start [] r.last.left printed before after r refl (none r.last r.known)
 
 -- a read that passed the limit
 pub limit_passed : (running : Running) (count room : ℕ) (stream start into : List ℕ) (printed : Option (List ℕ)) (before after : Option Stream) → Reading running stream start printed before →
-    count ≤ length into → ((last : Stream) → before ≡ Some last → Takes last count room into after) → Stopped running.engine.laws stream start printed after StreamLimit
+    count ≤ length into → ((last : Stream) → before ≡ Some last → Takes last count room into after) → Stopped running.engine.text stream start printed after StreamLimit
 limit_passed running count room stream start into printed before after r within takes =
     let t = takes r.last r.known in
     let size : count ≡ length (take count into) = omega (arith, length-take count into) in

@@ -1,6 +1,6 @@
 -- From one line of a stream to the next, and to its end.
 use Rattle.std.proofs.Common.{◌≡◌, ℕ, suc, ◌+◌, ◌≤◌, List, [], ◌∷◌, ◌++◌, length, Option, Some, None, Result, Ok, Err, refl, sym, ap, subst, ◌∙◌, inl, inr, arith, append_assoc, append-nil, OnOk, OnErr, MatchResult}
-use Rattle.std.specs.Prelude.{◌⊎◌}
+use Rattle.std.specs.Prelude.{◌⊎◌, codes}
 use Rattle.std.specs.List.{AllByRecursion}
 use Rattle.std.proofs.lemmas.List.{length-map}
 use Rattle.lps_terms.specs.declared.atom.Atom.{Atom}
@@ -11,8 +11,8 @@ use Rattle.lps_model.specs.declared.batch.Batch.{Batch}
 use Rattle.lps_model.specs.declared.cycle.Cycle.{Cycle}
 use Rattle.lps_model.specs.declared.trace.Trace.{Trace}
 use Rattle.lps_model.specs.Trace.{no_cycle, then_cycle}
-use Rattle.lps_model.specs.Report.{AreAllBlocks, block_text, last_line}
-use Rattle.lps_model.specs.Run.{IsExternal, first_trace}
+use Rattle.lps_model.specs.Run.{first_trace}
+use Rattle.lps_meaning.specs.Laws.{BlocksStay}
 use Rattle.lps_lines.specs.Stream.{IsLine}
 use Rattle.lps_batches.specs.declared.batch_bad.BatchBad.{BatchBad}
 use Rattle.lps_batches.specs.Lines.{IsBadLine}
@@ -20,31 +20,32 @@ use Rattle.lps_batches.specs.Stream.{Ahead, BeginsBad, MeetsBad, MeetsBadLast, M
 use Rattle.lps_batches.specs.Stream as reads
 use Rattle.lps_batches.proofs.Few.{batch_few}
 use Rattle.lps_outside.specs.Bytes.{IsFront, Appends, AppendsFront, Stream}
-use Rattle.lps_run.specs.declared.engine.Engine.{Engine}
 use Rattle.lps_run.specs.declared.stream.Running.{Running}
 use Rattle.lps_run.specs.declared.stop.Stop.{Stop}
 use Rattle.lps_run.specs.declared.stop.Stop.TheVariants.{PrintFault}
-use Rattle.lps_run.specs.Engine.{Stands}
+use Rattle.lps_cycle.specs.Engine.{EngineState, Stands}
 use Rattle.lps_run.specs.Judged.{AreWhole, HasFirst, IsBatchOf, IsFaulty, IsSound, batch_fault, ended}
 use Rattle.lps_run.specs.Judged as judged
-use Rattle.lps_run.specs.Stopping.{PrintsBlocks, PrintsRunFront, PrintsFront, Reported, EndsAtLimit, EndsAtLine, Stopped}
+use Rattle.lps_outside.specs.Causes.{Rose}
+use Rattle.lps_run.specs.Stopping.{Counted, PrintsBlocks, PrintsRunFront, PrintsFront, Reported, EndsAtLimit, EndsAtLine, Stopped}
 use Rattle.lps_run.specs.Running.{Due, Made, Standing, Finished}
 use Rattle.lps_run.proofs.Feeds.{long_ends, no_whole}
-use Rattle.lps_run.proofs.Judging.{batch_external, batch_more, pass_more, skip_more}
-use Rattle.lps_run.proofs.Reports.{block_more, block_first}
+use Rattle.lps_run.specs.Reporting.{AreAllBlocks, block_of}
+use Rattle.lps_run.proofs.Judging.{batch_more, pass_more, skip_more}
+use Rattle.lps_run.proofs.Reports.{block_more, block_first, last_is_done, report_done}
 
 -- a run has a cycle for each batch
-batch_count : {text : Text} {facts : List Atom} {cycles : ℕ} {batches : List (List Atom)} {trace : Trace} → Stands text facts cycles batches trace → length batches ≡ cycles
-batch_count {trace = trace} stands = sym (ap length stands.run.events) ∙ length-map trace.cycles (λ (cycle : Cycle). cycle.events) ∙ stands.count
+batch_count : {engine : EngineState} {batches : List (List Atom)} {trace : Trace} → Stands engine batches trace → length batches ≡ engine.cycles
+batch_count {trace = trace} stands = sym (ap length stands.events) ∙ length-map trace.cycles (λ (cycle : Cycle). cycle.events) ∙ stands.count
 
 -- ---- what is printed
 
 module _ {running : Running} {stream rest blocks : List ℕ} (made : Made running stream rest blocks) where
-  made_first : HasFirst running.engine.laws stream made.batches
+  made_first : HasFirst running.engine.text stream made.batches
   made_first = record { front = made.taken; rest = running.reader.left ++ rest; split = made.split; lines = running.reader.lines; are = made.are }
 
   -- a front of the blocks is a front of the report
-  pub made_front : (start front : List ℕ) (printed : Option (List ℕ)) → IsFront front blocks → printed ≡ Some (start ++ front) → PrintsRunFront running.engine.laws stream start printed
+  pub made_front : (start front : List ℕ) (printed : Option (List ℕ)) → IsFront front blocks → printed ≡ Some (start ++ front) → PrintsRunFront running.engine.text stream start printed
   made_front start front printed is_front told = record {
     batches = made.batches;
     first = made_first;
@@ -60,19 +61,19 @@ module _ {running : Running} {stream rest blocks : List ℕ} (made : Made runnin
   }
 
   -- what is printed are the blocks of the run over the batches
-  pub made_prints : (start : List ℕ) (printed : Option (List ℕ)) → printed ≡ Some (start ++ blocks) → PrintsBlocks running.engine.laws made.batches start printed
+  pub made_prints : (start : List ℕ) (printed : Option (List ℕ)) → printed ≡ Some (start ++ blocks) → PrintsBlocks running.engine.text made.batches start printed
   made_prints start printed told = record { trace = made.trace; run = made.stands.run; blocks = blocks; reported = made.reported; told = told }
 
 -- what was printed so far is a front of the report
-pub standing_front : {running : Running} {stream rest start : List ℕ} {printed : Option (List ℕ)} → Standing running stream rest start printed → PrintsFront running.engine.laws stream start printed
+pub standing_front : {running : Running} {stream rest start : List ℕ} {printed : Option (List ℕ)} → Standing running stream rest start printed → PrintsFront running.engine.text stream start printed
 standing_front {start = start} {printed = printed} s = inr (made_front s.made start s.blocks printed ([], sym (append-nil s.blocks)) s.told)
 
 module _ {running : Running} {stream rest start : List ℕ} {printed : Option (List ℕ)} {batch : Batch} (due : Due running stream rest start printed batch) where
-  due_prints : PrintsBlocks running.engine.laws due.batches start printed
+  due_prints : PrintsBlocks running.engine.text due.batches start printed
   due_prints = record { trace = due.trace; run = due.stands.run; blocks = due.blocks; reported = due.reported; told = due.told }
 
   -- the same where the batch has no cycle yet
-  pub due_front : PrintsFront running.engine.laws stream start printed
+  pub due_front : PrintsFront running.engine.text stream start printed
   due_front = inr (record {
     batches = due.batches;
     first = record { front = due.taken; rest = due.line ++ 10 ∷ (running.reader.left ++ rest); split = due.split; lines = due.lines; are = due.are };
@@ -87,15 +88,15 @@ module _ {running : Running} {stream rest start : List ℕ} {printed : Option (L
     told = due.told;
   })
 
-  next_line : judged.HasNext running.engine.laws stream due.batches due.lines due.line
+  next_line : judged.HasNext running.engine.text stream due.batches due.lines due.line
   next_line = record { front = due.taken; rest = running.reader.left ++ rest; split = due.split; are = due.are }
 
   number_is : (number : ℕ) → number ≡ running.engine.cycles + 1 → number ≡ suc (length due.batches)
   number_is number is = let count = batch_count due.stands in omega (arith, is, count)
 
   -- the batch is none of the next cycle
-  pub due_refused : (number place : ℕ) (kind : BatchKind) → number ≡ running.engine.cycles + 1 → place ≡ running.reader.lines → batch_fault running.engine.laws number batch ≡ Some kind →
-      EndsAtLine running.engine.laws stream start printed (record { line = place; kind = kind })
+  pub due_refused : (number place : ℕ) (kind : BatchKind) → number ≡ running.engine.cycles + 1 → place ≡ running.reader.lines → batch_fault running.engine.text number batch ≡ Some kind →
+      EndsAtLine running.engine.text stream start printed (record { line = place; kind = kind })
   due_refused number place kind is at fault = record {
     batches = due.batches;
     is = record {
@@ -103,16 +104,16 @@ module _ {running : Running} {stream rest start : List ℕ} {printed : Option (L
       lines = due.lines;
       next = next_line;
       place = at ∙ due.place;
-      is = inr (record { batch = batch; is = due.is; fault = subst (λ n. batch_fault running.engine.laws n batch ≡ Some kind) (number_is number is) fault });
+      is = inr (record { batch = batch; is = due.is; fault = subst (λ n. batch_fault running.engine.text n batch ≡ Some kind) (number_is number is) fault });
     };
     prints = due_prints;
   }
 
-  fits : (number : ℕ) → number ≡ running.engine.cycles + 1 → batch_fault running.engine.laws number batch ≡ None → IsBatchOf running.engine.laws (suc (length due.batches)) due.line batch
-  fits number is fine = record { is = due.is; fits = subst (λ n. batch_fault running.engine.laws n batch ≡ None) (number_is number is) fine }
+  fits : (number : ℕ) → number ≡ running.engine.cycles + 1 → batch_fault running.engine.text number batch ≡ None → IsBatchOf running.engine.text (suc (length due.batches)) due.line batch
+  fits number is fine = record { is = due.is; fits = subst (λ n. batch_fault running.engine.text n batch ≡ None) (number_is number is) fine }
 
   -- the run has as many cycles as a run may have
-  pub due_limit : (number : ℕ) → number ≡ running.engine.cycles + 1 → batch_fault running.engine.laws number batch ≡ None → running.engine.cycles ≡ 1000000 → EndsAtLimit running.engine.laws stream start printed
+  pub due_limit : (number : ℕ) → number ≡ running.engine.cycles + 1 → batch_fault running.engine.text number batch ≡ None → running.engine.cycles ≡ 1000000 → EndsAtLimit running.engine.text stream start printed
   due_limit number is fine full = record {
     batches = due.batches;
     full = batch_count due.stands ∙ full;
@@ -121,19 +122,18 @@ module _ {running : Running} {stream rest start : List ℕ} {printed : Option (L
   }
 
   -- the cycle of the batch is made
-  pub due_made : (new : Running) (number : ℕ) (cycle : Cycle) (block : List ℕ) → number ≡ running.engine.cycles + 1 → batch_fault running.engine.laws number batch ≡ None →
-      new.engine.laws ≡ running.engine.laws → new.reader ≡ running.reader → new.engine.cycles ≡ running.engine.cycles + 1 →
-      ((batches : List (List Atom)) (trace : Trace) → length batch.events ≤ 1000 → AllByRecursion (IsExternal running.engine.laws) batch.events → Stands running.engine.laws running.engine.facts.keys running.engine.cycles batches trace →
-      Stands running.engine.laws new.engine.facts.keys new.engine.cycles (batches ++ batch.events ∷ []) (then_cycle trace cycle)) →
-      block ≡ block_text number cycle new.engine.facts.keys → Made new stream rest (due.blocks ++ block)
-  due_made new number cycle block is fine laws_are reader_is count goes_on spelled =
-      let text = running.engine.laws in
+  pub due_made : BlocksStay → (new : Running) (number : ℕ) (cycle : Cycle) (block : List ℕ) → number ≡ running.engine.cycles + 1 → batch_fault running.engine.text number batch ≡ None →
+      new.engine.text ≡ running.engine.text → new.reader ≡ running.reader → new.engine.cycles ≡ running.engine.cycles + 1 →
+      ((batches : List (List Atom)) (trace : Trace) → Stands running.engine batches trace → Stands new.engine (batches ++ batch.events ∷ []) (then_cycle trace cycle)) →
+      block ≡ block_of number cycle new.engine.facts → Made new stream rest (due.blocks ++ block)
+  due_made stay new number cycle block is fine text_is reader_is count goes_on spelled =
+      let text = running.engine.text in
       let batches = due.batches ++ batch.events ∷ [] in
       let trace = then_cycle due.trace cycle in
-      let stands = goes_on due.batches due.trace (batch_few due.line batch due.is.read) (batch_external text number batch fine) due.stands in
+      let stands = goes_on due.batches due.trace due.stands in
       let same : number ≡ new.engine.cycles = is ∙ sym count in
-      let reported = block_more text running.engine.facts.keys new.engine.facts.keys running.engine.cycles new.engine.cycles due.batches batches due.trace cycle due.blocks block due.stands stands count due.reported
-      (spelled ∙ ap (λ n. block_text n cycle new.engine.facts.keys) same) in
+      let reported = block_more stay running.engine new.engine due.batches batches due.trace cycle due.blocks block due.stands stands text_is count due.reported
+      (spelled ∙ ap (λ n. block_of n cycle new.engine.facts) same) in
       let are : AreWhole text (due.taken ++ (due.line ++ 10 ∷ [])) batches (suc due.lines) = batch_more text due.line batch (length due.batches) due.are (let e : length due.batches ≡ 0 + length due.batches = omega arith in e) (fits number is fine) in
       record {
         fine = ap (λ (r : Reader). r.bad) reader_is ∙ due.fine;
@@ -142,11 +142,11 @@ module _ {running : Running} {stream rest start : List ℕ} {printed : Option (L
             due.split ∙ ap (λ (bs : List ℕ). due.taken ++ bs) (sym (append_assoc due.line (10 ∷ []) (running.reader.left ++ rest))) ∙ sym (append_assoc due.taken (due.line ++ 10 ∷ []) (running.reader.left ++ rest))
             ∙ ap (λ (r : Reader). (due.taken ++ (due.line ++ 10 ∷ [])) ++ (r.left ++ rest)) (sym reader_is);
         batches = batches;
-        are = subst (λ (t : Text). AreWhole t (due.taken ++ (due.line ++ 10 ∷ [])) batches new.reader.lines) (sym laws_are)
+        are = subst (λ (t : Text). AreWhole t (due.taken ++ (due.line ++ 10 ∷ [])) batches new.reader.lines) (sym text_is)
             (subst (λ n. AreWhole text (due.taken ++ (due.line ++ 10 ∷ [])) batches n) (sym (ap (λ (r : Reader). r.lines) reader_is ∙ due.place)) are);
         trace = trace;
-        stands = subst (λ (t : Text). Stands t new.engine.facts.keys new.engine.cycles batches trace) (sym laws_are) stands;
-        reported = subst (λ (t : Text). AreAllBlocks t trace (due.blocks ++ block)) (sym laws_are) reported;
+        stands = stands;
+        reported = reported;
       }
 
 -- ---- a block is printed, or a front of it
@@ -155,7 +155,7 @@ front_more : (blocks front block : List ℕ) → IsFront front block → IsFront
 front_more blocks front block f = (f.0, ap (λ (bs : List ℕ). blocks ++ bs) f.1 ∙ sym (append_assoc blocks front f.0))
 
 pub block_printed : (text : Text) (running : Running) (stream rest blocks block bytes start : List ℕ) (before after : Option (List ℕ)) (source : Option Stream) (X Y : Type 0) (result : Result (Unit {0}) Stop) →
-    Made running stream rest (blocks ++ block) → running.engine.laws ≡ text → bytes ≡ block → before ≡ Some (start ++ blocks) →
+    Made running stream rest (blocks ++ block) → running.engine.text ≡ text → bytes ≡ block → before ≡ Some (start ++ blocks) →
     OnOk result (Appends before after bytes) → OnErr result (AppendsFront before after bytes) → MatchResult result (λ _. X) (λ stop. (stop ≡ PrintFault) × Y) →
     MatchResult result (λ _. Standing running stream rest start after) (λ stop. Stopped text stream start after source stop)
 block_printed text running stream rest blocks block bytes start before after source X Y (Ok x) made laws_are bytes_are told all part cause = record {
@@ -166,26 +166,24 @@ block_printed text running stream rest blocks block bytes start before after sou
 block_printed text running stream rest blocks block bytes start before after source X Y (Err stop) made laws_are bytes_are told all part cause =
     let p = part (start ++ blocks) told in
     let front = front_more blocks p.0 block (subst (λ (bs : List ℕ). IsFront p.0 bs) bytes_are p.1) in
-    let run : PrintsFront running.engine.laws stream start after = inr (made_front made start (blocks ++ p.0) after front (p.2 ∙ ap Some (append_assoc start blocks p.0))) in
+    let run : PrintsFront running.engine.text stream start after = inr (made_front made start (blocks ++ p.0) after front (p.2 ∙ ap Some (append_assoc start blocks p.0))) in
     rw cause.0 (subst (λ (t : Text). PrintsFront t stream start after) laws_are run)
 
 -- ---- the start
 
-pub begun : (running : Running) (text : Text) (stream block : List ℕ) (cycle : Cycle) → running.engine.laws ≡ text → running.reader ≡ record { left = []; lines = 0; bad = None } →
-    Stands text running.engine.facts.keys running.engine.cycles [] (first_trace running.engine.facts.keys) → cycle ≡ no_cycle → block ≡ block_text 0 cycle running.engine.facts.keys → Made running stream (ended stream) block
-begun running text stream block cycle laws_are reader_is before none spelled =
+pub begun : (running : Running) (stream block : List ℕ) (cycle : Cycle) → running.reader ≡ record { left = []; lines = 0; bad = None } →
+    Stands running.engine [] (first_trace running.engine.facts) → cycle ≡ no_cycle → block ≡ block_of 0 cycle running.engine.facts → Made running stream (ended stream) block
+begun running stream block cycle reader_is stands none spelled =
     let engine = running.engine in
-    let stands : Stands engine.laws engine.facts.keys engine.cycles [] (first_trace engine.facts.keys) = subst (λ (t : Text). Stands t engine.facts.keys engine.cycles [] (first_trace engine.facts.keys)) (sym laws_are) before in
-    let zero_is : engine.cycles ≡ 0 = sym before.count in
     record {
       fine = ap (λ (r : Reader). r.bad) reader_is;
       taken = [];
       split = ap (λ (r : Reader). r.left ++ ended stream) (sym reader_is);
       batches = [];
-      are = subst (λ n. AreWhole engine.laws [] [] n) (sym (ap (λ (r : Reader). r.lines) reader_is)) judged.none;
-      trace = first_trace engine.facts.keys;
+      are = subst (λ n. AreWhole engine.text [] [] n) (sym (ap (λ (r : Reader). r.lines) reader_is)) judged.none;
+      trace = first_trace engine.facts;
       stands = stands;
-      reported = block_first engine.laws engine.facts.keys block (subst (λ k. Stands engine.laws engine.facts.keys k [] (first_trace engine.facts.keys)) zero_is stands) (spelled ∙ ap (λ (c : Cycle). block_text 0 c engine.facts.keys) none);
+      reported = block_first engine block stands (spelled ∙ ap (λ (c : Cycle). block_of 0 c engine.facts) none);
     }
 
 -- ---- what the reader answers
@@ -195,10 +193,10 @@ passed_split : (taken front bytes left rest all : List ℕ) → all ≡ taken ++
 passed_split taken front bytes left rest all split is =
     split ∙ ap (λ (bs : List ℕ). taken ++ (bs ++ rest)) is ∙ ap (λ (bs : List ℕ). taken ++ bs) (append_assoc front bytes rest) ∙ sym (append_assoc taken front (bytes ++ rest))
 
-module _ (engine : Engine) (old new : Reader) {stream rest start : List ℕ} {printed : Option (List ℕ)} (s : Standing (record { engine = engine; reader = old }) stream rest start printed) where
+module _ (engine : EngineState) (old new : Reader) {stream rest start : List ℕ} {printed : Option (List ℕ)} (s : Standing (record { engine = engine; reader = old }) stream rest start printed) where
   -- what is known behind the lines that are passed over
-  past : {count : ℕ} {bytes : List ℕ} (ahead : Ahead old count bytes) → AreWhole engine.laws (s.made.taken ++ ahead.front) s.made.batches (count + old.lines)
-  past ahead = skip_more engine.laws s.made.are ahead.skipped
+  past : {count : ℕ} {bytes : List ℕ} (ahead : Ahead old count bytes) → AreWhole engine.text (s.made.taken ++ ahead.front) s.made.batches (count + old.lines)
+  past ahead = skip_more engine.text s.made.are ahead.skipped
 
   past_split : {count : ℕ} {bytes : List ℕ} (ahead : Ahead old count bytes) → ended stream ≡ (s.made.taken ++ ahead.front) ++ (bytes ++ rest)
   past_split {bytes = bytes} ahead = passed_split s.made.taken ahead.front bytes old.left rest (ended stream) s.made.split ahead.split
@@ -211,7 +209,7 @@ module _ (engine : Engine) (old new : Reader) {stream rest start : List ℕ} {pr
       taken = s.made.taken ++ n.ahead.front;
       split = past_split n.ahead;
       batches = s.made.batches;
-      are = subst (λ k. AreWhole engine.laws (s.made.taken ++ n.ahead.front) s.made.batches k) (let e : n.passed + old.lines ≡ new.lines = omega (arith, n.lines) in e) (past n.ahead);
+      are = subst (λ k. AreWhole engine.text (s.made.taken ++ n.ahead.front) s.made.batches k) (let e : n.passed + old.lines ≡ new.lines = omega (arith, n.lines) in e) (past n.ahead);
       trace = s.made.trace;
       stands = s.made.stands;
       reported = s.made.reported;
@@ -238,8 +236,8 @@ module _ (engine : Engine) (old new : Reader) {stream rest start : List ℕ} {pr
   }
 
   -- a bad line behind the lines that are passed over
-  bad_line : (count : ℕ) (front line after : List ℕ) (kind : BatchKind) (bad : BatchBad) → AreWhole engine.laws (s.made.taken ++ front) s.made.batches (count + old.lines) → ended stream ≡ (s.made.taken ++ front) ++ (line ++ 10 ∷ after) →
-      bad.line ≡ old.lines + count + 1 → kind ≡ bad.kind → IsBadLine line kind → EndsAtLine engine.laws stream start printed bad
+  bad_line : (count : ℕ) (front line after : List ℕ) (kind : BatchKind) (bad : BatchBad) → AreWhole engine.text (s.made.taken ++ front) s.made.batches (count + old.lines) → ended stream ≡ (s.made.taken ++ front) ++ (line ++ 10 ∷ after) →
+      bad.line ≡ old.lines + count + 1 → kind ≡ bad.kind → IsBadLine line kind → EndsAtLine engine.text stream start printed bad
   bad_line count front line after kind bad are split place kind_is is = record {
     batches = s.made.batches;
     is = record {
@@ -252,7 +250,7 @@ module _ (engine : Engine) (old new : Reader) {stream rest start : List ℕ} {pr
     prints = made_prints s.made start printed s.told;
   }
 
-  begins_bad : (bad : BatchBad) (count : ℕ) (bytes : List ℕ) (kind : BatchKind) → Ahead old count bytes → BeginsBad bytes kind → bad.line ≡ old.lines + count + 1 → kind ≡ bad.kind → EndsAtLine engine.laws stream start printed bad
+  begins_bad : (bad : BatchBad) (count : ℕ) (bytes : List ℕ) (kind : BatchKind) → Ahead old count bytes → BeginsBad bytes kind → bad.line ≡ old.lines + count + 1 → kind ≡ bad.kind → EndsAtLine engine.text stream start printed bad
   begins_bad bad count bytes kind ahead (reads.whole line after same is) place kind_is =
       bad_line count ahead.front line (after ++ rest) same bad (past ahead) (past_split ahead ∙ ap (λ (bs : List ℕ). (s.made.taken ++ ahead.front) ++ bs) (append_assoc line (10 ∷ after) rest)) place kind_is is
   begins_bad bad count bytes kind ahead (reads.long line after all long) place kind_is =
@@ -260,7 +258,7 @@ module _ (engine : Engine) (old new : Reader) {stream rest start : List ℕ} {pr
       bad_line count ahead.front e.0 e.1 LineTooLong bad (past ahead) e.2 place kind_is e.3
 
   -- the reader met a bad line
-  pub bad_met : (bad : BatchBad) → MetBefore old bad new ⊎ MeetsBad old bad new → EndsAtLine engine.laws stream start printed bad
+  pub bad_met : (bad : BatchBad) → MetBefore old bad new ⊎ MeetsBad old bad new → EndsAtLine engine.text stream start printed bad
   bad_met bad (inl (before, same)) = let apart = sym s.made.fine ∙ before in absurd cc
   bad_met bad (inr m) = begins_bad bad m.passed m.bytes bad.kind m.ahead m.begins m.place refl
 
@@ -289,15 +287,16 @@ piece_fed running new stream piece rest start printed s engine_is reader_is =
 last_split : (taken front line left all : List ℕ) → all ≡ taken ++ (left ++ 10 ∷ []) → left ≡ front ++ line → all ≡ (taken ++ front) ++ (line ++ 10 ∷ [])
 last_split taken front line left all split is = passed_split taken front line left (10 ∷ []) all split is
 
-module _ (engine : Engine) (old new : Reader) {stream start : List ℕ} {printed : Option (List ℕ)} (s : Standing (record { engine = engine; reader = old }) stream (10 ∷ []) start printed) where
+module _ (engine : EngineState) (old new : Reader) {stream start : List ℕ} {printed : Option (List ℕ)} (s : Standing (record { engine = engine; reader = old }) stream (10 ∷ []) start printed) where
   pub none_left : NothingLeft old new → Finished (record { engine = engine; reader = new }) stream start printed
   none_left n =
-      let are = pass_more engine.laws n.line (past engine old new s n.ahead) n.is in
+      let are = pass_more engine.text n.line (past engine old new s n.ahead) n.is in
       let split = last_split s.made.taken n.ahead.front n.line old.left (ended stream) s.made.split n.ahead.split in
       record {
         batches = s.made.batches;
-        sound = (suc (n.passed + old.lines), subst (λ (bs : List ℕ). AreWhole engine.laws bs s.made.batches (suc (n.passed + old.lines))) (sym split) are);
+        sound = (suc (n.passed + old.lines), subst (λ (bs : List ℕ). AreWhole engine.text bs s.made.batches (suc (n.passed + old.lines))) (sym split) are);
         prints = made_prints s.made start printed s.told;
+        no_rules = s.made.stands.no_rules;
       }
 
   pub last_due : (batch : Batch) → TakesLast old batch new → Due (record { engine = engine; reader = new }) stream [] start printed batch
@@ -318,7 +317,7 @@ module _ (engine : Engine) (old new : Reader) {stream start : List ℕ} {printed
     told = s.told;
   }
 
-  pub bad_last : (bad : BatchBad) → MeetsBadLast old bad new → EndsAtLine engine.laws stream start printed bad
+  pub bad_last : (bad : BatchBad) → MeetsBadLast old bad new → EndsAtLine engine.text stream start printed bad
   bad_last bad m =
       bad_line engine old new s m.passed m.ahead.front m.line [] bad.kind bad (past engine old new s m.ahead)
       (last_split s.made.taken m.ahead.front m.line old.left (ended stream) s.made.split m.ahead.split) m.place refl m.is
@@ -329,18 +328,25 @@ all_taken running stream start printed s none =
     let split : s.made.taken ≡ ended stream = sym (s.made.split ∙ ap (λ (bs : List ℕ). s.made.taken ++ (bs ++ [])) none ∙ append-nil s.made.taken) in
     record {
       batches = s.made.batches;
-      sound = (running.reader.lines, subst (λ (bs : List ℕ). AreWhole running.engine.laws bs s.made.batches running.reader.lines) split s.made.are);
+      sound = (running.reader.lines, subst (λ (bs : List ℕ). AreWhole running.engine.text bs s.made.batches running.reader.lines) split s.made.are);
       prints = made_prints s.made start printed s.told;
+      no_rules = s.made.stands.no_rules;
     }
+
+-- the counts after the last print
+pub last_counted : (reads reads' before mid after : ℕ) (result : Result (Unit {0}) Stop) → reads' ≡ reads → mid ≡ before →
+    MatchResult result (λ _. after ≡ mid) (λ stop. (stop ≡ PrintFault) × Rose mid after) → Counted result reads reads' before after
+last_counted reads reads' before mid after (Ok x) same kept cause = (same, cause ∙ kept)
+last_counted reads reads' before mid after (Err stop) same kept cause = rw cause.0 (same, subst (λ n. Rose n after) kept cause.1)
 
 -- the last line is printed, or a front of it
 pub last_printed : (running : Running) (text : Text) (stream start bytes : List ℕ) (before after : Option (List ℕ)) (source : Option Stream) (last : Stream) (X Y : Type 0) (result : Result (Unit {0}) Stop) →
-    Finished running stream start before → running.engine.laws ≡ text → bytes ≡ last_line → source ≡ Some last → last.left ≡ [] →
+    Finished running stream start before → running.engine.text ≡ text → bytes ≡ codes "done\n" → source ≡ Some last → last.left ≡ [] →
     OnOk result (Appends before after bytes) → OnErr result (AppendsFront before after bytes) → MatchResult result (λ _. X) (λ stop. (stop ≡ PrintFault) × Y) →
     MatchResult result (λ _. Reported text stream start after source) (λ stop. Stopped text stream start after source stop)
 last_printed running text stream start bytes before after source last X Y (Ok x) done laws_are bytes_are known ended all part cause =
     let p = done.prints in
-    let whole : Reported running.engine.laws stream start after source = record {
+    let whole : Reported running.engine.text stream start after source = record {
       after = last;
       known = known;
       ended = ended;
@@ -348,30 +354,30 @@ last_printed running text stream start bytes before after source last X Y (Ok x)
       sound = done.sound;
       trace = p.trace;
       run = p.run;
-      report = p.blocks ++ last_line;
-      reported = (p.blocks, p.reported, refl);
-      told = all (start ++ p.blocks) p.told ∙ ap Some (append_assoc start p.blocks bytes ∙ ap (λ (bs : List ℕ). start ++ (p.blocks ++ bs)) bytes_are);
+      report = p.blocks ++ bytes;
+      reported = report_done running.engine.text done.no_rules p.trace p.blocks bytes p.reported bytes_are;
+      told = all (start ++ p.blocks) p.told ∙ ap Some (append_assoc start p.blocks bytes);
     } in
     subst (λ (t : Text). Reported t stream start after source) laws_are whole
 last_printed running text stream start bytes before after source last X Y (Err stop) done laws_are bytes_are known ended all part cause =
     let p = done.prints in
     let f = part (start ++ p.blocks) p.told in
-    let run : PrintsRunFront running.engine.laws stream start after = record {
+    let run : PrintsRunFront running.engine.text stream start after = record {
       batches = done.batches;
       first = record { front = judged.ended stream; rest = []; split = sym (append-nil (judged.ended stream)); lines = done.sound.0; are = done.sound.1 };
       trace = p.trace;
       run = p.run;
       blocks = p.blocks;
       reported = p.reported;
-      ending = last_line;
-      may_end = inr (refl, done.sound);
+      ending = bytes;
+      may_end = inr (last_is_done running.engine.text done.no_rules p.trace bytes bytes_are, done.sound);
       front = p.blocks ++ f.0;
-      is_front = front_more p.blocks f.0 last_line (subst (λ (bs : List ℕ). IsFront f.0 bs) bytes_are f.1);
+      is_front = front_more p.blocks f.0 bytes f.1;
       told = f.2 ∙ ap Some (append_assoc start p.blocks f.0);
     } in
     rw cause.0 (subst (λ (t : Text). PrintsFront t stream start after) laws_are (inr run))
 
-module _ (engine : Engine) (old new : Reader) {stream start : List ℕ} {printed : Option (List ℕ)} (s : Standing (record { engine = engine; reader = old }) stream (10 ∷ []) start printed) (part : IsLine old.left) where
+module _ (engine : EngineState) (old new : Reader) {stream start : List ℕ} {printed : Option (List ℕ)} (s : Standing (record { engine = engine; reader = old }) stream (10 ∷ []) start printed) (part : IsLine old.left) where
   -- no whole line is left where the beginning of one is
   no_batch : (batch : Batch) → TakesBatch old batch new → ⊥
   no_batch batch t = no_whole t.ahead.front t.line new.left (subst IsLine t.ahead.split part)
@@ -381,7 +387,7 @@ module _ (engine : Engine) (old new : Reader) {stream start : List ℕ} {printed
   finish_due batch (inl t) = absurd (no_batch batch t)
   finish_due batch (inr t) = (last_due engine old new s batch t, ap (λ (r : Reader). r.left) t.same)
 
-  pub finish_bad : (bad : BatchBad) → (MetBefore old bad new ⊎ MeetsBad old bad new) ⊎ MeetsBadLast old bad new → EndsAtLine engine.laws stream start printed bad
+  pub finish_bad : (bad : BatchBad) → (MetBefore old bad new ⊎ MeetsBad old bad new) ⊎ MeetsBadLast old bad new → EndsAtLine engine.text stream start printed bad
   finish_bad bad (inl m) = bad_met engine old new s bad m
   finish_bad bad (inr m) = bad_last engine old new s bad m
 

@@ -63,6 +63,10 @@ pub record IsMisfit (text : Text) (cycle : ℕ) (line : List ℕ) (kind : BatchK
 abbrev pub IsFaulty : Text → ℕ → List ℕ → BatchKind → Type 0
 IsFaulty text cycle line kind = IsBadLine line kind ⊎ IsMisfit text cycle line kind
 
+-- some line is this batch
+abbrev pub WasRead : Batch → Type 0
+WasRead batch = (line : List ℕ) × IsBatchLine line batch
+
 -- ---- a stream
 
 -- Behind so many lines and cycles, these bytes are whole lines up to line `after`, and these are their batches.

@@ -1,5 +1,4 @@
-pub mod Effects
-pub mod Engine
+pub mod Reporting
 pub mod Built
 pub mod Judged
 pub mod Stopping

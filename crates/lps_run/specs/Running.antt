@@ -1,15 +1,16 @@
 -- What stands between two lines of the stream.
-use Rattle.std.specs.Prelude.{◌≡◌, ℕ, suc, List, ◌∷◌, ◌++◌, Option, Some, None}
+use Rattle.std.specs.Prelude.{◌≡◌, ℕ, suc, List, [], ◌∷◌, ◌++◌, Option, Some, None}
 use Rattle.lps_terms.specs.declared.atom.Atom.{Atom}
 use Rattle.lps_model.specs.declared.batch.Batch.{Batch}
 use Rattle.lps_model.specs.declared.trace.Trace.{Trace}
-use Rattle.lps_model.specs.Report.{AreAllBlocks}
 use Rattle.lps_lines.specs.Stream.{IsLine}
 use Rattle.lps_batches.specs.Lines.{IsBatchLine}
+use Rattle.lps_meaning.specs.Rules.{rules}
 use Rattle.lps_outside.specs.Bytes.{Stream}
 use Rattle.lps_run.specs.declared.stream.Running.{Running}
-use Rattle.lps_run.specs.Engine.{Stands}
+use Rattle.lps_cycle.specs.Engine.{Stands}
 use Rattle.lps_run.specs.Judged.{AreWhole, IsSound, ended}
+use Rattle.lps_run.specs.Reporting.{AreAllBlocks}
 use Rattle.lps_run.specs.Stopping.{PrintsBlocks}
 
 -- Whole lines of the stream are taken, some bytes after them are fed to the reader, and `rest` is what follows. The run over
@@ -19,10 +20,10 @@ pub record Made (running : Running) (stream rest blocks : List ℕ) : Type 0 whe
   pub taken : List ℕ
   pub split : ended stream ≡ taken ++ (running.reader.left ++ rest)
   pub batches : List (List Atom)
-  pub are : AreWhole running.engine.laws taken batches running.reader.lines
+  pub are : AreWhole running.engine.text taken batches running.reader.lines
   pub trace : Trace
-  pub stands : Stands running.engine.laws running.engine.facts.keys running.engine.cycles batches trace
-  pub reported : AreAllBlocks running.engine.laws trace blocks
+  pub stands : Stands running.engine batches trace
+  pub reported : AreAllBlocks running.engine.text trace blocks
 
 -- the same, and these blocks were printed since `start`
 pub record Standing (running : Running) (stream rest start : List ℕ) (printed : Option (List ℕ)) : Type 0 where
@@ -38,13 +39,13 @@ pub record Due (running : Running) (stream rest start : List ℕ) (printed : Opt
   pub split : ended stream ≡ taken ++ (line ++ 10 ∷ (running.reader.left ++ rest))
   pub batches : List (List Atom)
   pub lines : ℕ
-  pub are : AreWhole running.engine.laws taken batches lines
+  pub are : AreWhole running.engine.text taken batches lines
   pub place : running.reader.lines ≡ suc lines
   pub is : IsBatchLine line batch
   pub trace : Trace
-  pub stands : Stands running.engine.laws running.engine.facts.keys running.engine.cycles batches trace
+  pub stands : Stands running.engine batches trace
   pub blocks : List ℕ
-  pub reported : AreAllBlocks running.engine.laws trace blocks
+  pub reported : AreAllBlocks running.engine.text trace blocks
   pub told : printed ≡ Some (start ++ blocks)
 
 -- the same between two reads: what was fed and is not taken is the beginning of a line
@@ -57,5 +58,6 @@ pub record Reading (running : Running) (stream start : List ℕ) (printed : Opti
 -- no line of the stream is faulty, and the blocks of all its cycles are printed
 pub record Finished (running : Running) (stream start : List ℕ) (printed : Option (List ℕ)) : Type 0 where
   pub batches : List (List Atom)
-  pub sound : IsSound running.engine.laws stream batches
-  pub prints : PrintsBlocks running.engine.laws batches start printed
+  pub sound : IsSound running.engine.text stream batches
+  pub prints : PrintsBlocks running.engine.text batches start printed
+  pub no_rules : rules running.engine.text ≡ []

@@ -3,8 +3,7 @@ use Rattle.std.specs.Prelude.{◌≡◌, ◌⊎◌, ℕ, ◌+◌, ◌^◌, ◌<�
 use Rattle.lps_terms.specs.declared.atom.Atom.{Atom}
 use Rattle.lps_terms.specs.declared.text.Text.{Text}
 use Rattle.lps_model.specs.declared.trace.Trace.{Trace}
-use Rattle.lps_model.specs.Report.{AreAllBlocks, IsReport, last_line}
-use Rattle.lps_model.specs.Run.{IsRun}
+use Rattle.lps_cycle.specs.Engine.{IsRunOver}
 use Rattle.lps_batches.specs.declared.batch_bad.BatchBad.{BatchBad}
 use Rattle.lps_lines.specs.Stream.{IsLine}
 use Rattle.lps_outside.specs.Bytes.{IsFront, Stream}
@@ -12,30 +11,31 @@ use Rattle.lps_outside.specs.Causes.{Rose}
 use Rattle.lps_run.specs.declared.stop.Stop.{Stop}
 use Rattle.lps_run.specs.declared.stop.Stop.TheVariants.{NoMemory, Refused, CycleLimit, StreamLimit, EventFault, PrintFault}
 use Rattle.lps_run.specs.Judged.{AreWhole, GoesOn, HasFirst, IsFirstFaulty, IsSound}
+use Rattle.lps_run.specs.Reporting.{AreAllBlocks, IsLastLine, IsWholeReport}
 
 -- what was printed since `start` are exactly the blocks of the run over these batches
 pub record PrintsBlocks (text : Text) (batches : List (List Atom)) (start : List ℕ) (printed : Option (List ℕ)) : Type 0 where
   pub trace : Trace
-  pub run : IsRun text batches trace
+  pub run : IsRunOver text batches trace
   pub blocks : List ℕ
   pub reported : AreAllBlocks text trace blocks
   pub told : printed ≡ Some (start ++ blocks)
 
 -- what follows the blocks of the run over these batches: nothing, or the last line where the batches are all of the
 -- stream and no line of it is faulty
-abbrev pub MayEnd : Text → List ℕ → List (List Atom) → List ℕ → Type 0
-MayEnd text stream batches ending = (ending ≡ []) ⊎ ((ending ≡ last_line) × IsSound text stream batches)
+abbrev pub MayEnd : Text → List ℕ → List (List Atom) → Trace → List ℕ → Type 0
+MayEnd text stream batches trace ending = (ending ≡ []) ⊎ (IsLastLine text trace ending × IsSound text stream batches)
 
 -- what was printed since `start` is a front of the report of the run over the first batches of the stream
 pub record PrintsRunFront (text : Text) (stream start : List ℕ) (printed : Option (List ℕ)) : Type 0 where
   pub batches : List (List Atom)
   pub first : HasFirst text stream batches
   pub trace : Trace
-  pub run : IsRun text batches trace
+  pub run : IsRunOver text batches trace
   pub blocks : List ℕ
   pub reported : AreAllBlocks text trace blocks
   pub ending : List ℕ
-  pub may_end : MayEnd text stream batches ending
+  pub may_end : MayEnd text stream batches trace ending
   pub front : List ℕ
   pub is_front : IsFront front (blocks ++ ending)
   pub told : printed ≡ Some (start ++ front)
@@ -53,9 +53,9 @@ pub record Reported (text : Text) (stream start : List ℕ) (printed : Option (L
   pub batches : List (List Atom)
   pub sound : IsSound text stream batches
   pub trace : Trace
-  pub run : IsRun text batches trace
+  pub run : IsRunOver text batches trace
   pub report : List ℕ
-  pub reported : IsReport text trace report
+  pub reported : IsWholeReport text trace report
   pub told : printed ≡ Some (start ++ report)
 
 -- The run ended at a read that took the bytes `last`. The bytes taken before are whole lines and the beginning of one. What

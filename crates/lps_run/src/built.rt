@@ -1,24 +1,26 @@
 //! Which texts are run so far.
 ghost use Rattle.std.specs.Prelude.{◌≡◌};
-ghost use Rattle.lps_run.specs.Built.{first_not_built as first_not_built_of, has_built_form as has_built_form_of, not_built as not_built_of};
+ghost use Rattle.lps_run.specs.Built.{first_not_built as first_not_built_of, is_built as is_built_of, not_built as not_built_of};
 
 use lps_model::Accepted;
 use lps_terms::{Body, Statement};
 
-/// Whether a statement is a declaration, facts of the start, or a law without variables and conditions.
-fn has_built_form(statement: &Statement) -> bool
-    ensures { result ≡ has_built_form_of statement.now.names statement.now.body }
+/// Whether a statement is no reactive rule and no macro clause.
+fn is_built(body: &Body) -> bool
+    ensures { result ≡ is_built_of body.now }
 {
-    match &statement.body {
-        Body::Declare(_) => true,
-        Body::Initially(_) => true,
-        Body::Law {
-            initiates: _,
-            event: _,
-            fluent: _,
-            conds,
-        } => statement.names.is_empty() && conds.is_empty(),
-        _ => false,
+    match body {
+        Body::Rule {
+            antecedent: _,
+            alternatives: _,
+        } => false,
+        Body::MacroClause {
+            head: _,
+            begin: _,
+            end: _,
+            items: _,
+        } => false,
+        _ => true,
     }
 }
 
@@ -26,7 +28,7 @@ fn first_not_built(statements: &[Statement]) -> Option<u32>
     ensures { result ≡ first_not_built_of statements.now }
 {
     for statement in statements {
-        if !has_built_form(statement) {
+        if !is_built(&statement.body) {
             return Some(statement.line);
         }
     }

@@ -11,8 +11,6 @@
 mod answer;
 mod batch;
 mod built;
-mod causal;
-mod engine;
 mod laws;
 mod loading;
 mod report;
@@ -25,5 +23,7 @@ pub use answer::{Answer, UsageKind};
 pub use laws::streams_are_judged_one_way;
 pub use top::lps;
 
+#[cfg(test)]
+mod state_tests;
 #[cfg(test)]
 mod tests;

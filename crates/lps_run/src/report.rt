@@ -1,12 +1,13 @@
-ghost use Rattle.std.specs.Prelude.{◌≡◌, ◌++◌, codes, true, false, OnOk};
+ghost use Rattle.std.specs.Prelude.{◌≡◌, ◌++◌, [], OnOk};
 ghost use Rattle.std.specs.Fmt.{decimal};
-ghost use Rattle.lps_terms.specs.Printed.{atom_text};
-ghost use Rattle.lps_model.specs.Report.{before_atom, block_text, listed_from, verdict_line, verdict_lines};
+ghost use Rattle.lps_facts.specs.Facts.{members};
+ghost use Rattle.lps_model.specs.Report.{verdict_line, verdict_lines};
+ghost use Rattle.lps_run.specs.Reporting.{block_of};
 
+use lps_facts::Facts;
 use lps_model::{Cycle, Verdict};
 use lps_terms::{Atom, print_atom};
 use std::alloc::AllocError;
-use std::collections::BTreeSet;
 
 fn write_number(out: &mut Vec<u8>, number: u64) -> Result<(), AllocError>
     ensures { OnOk result (out.new.items ≡ out.old.items ++ decimal number) }
@@ -51,45 +52,22 @@ fn write_verdicts(
     Ok(())
 }
 
-fn write_listed(out: &mut Vec<u8>, later: bool, atom: &Atom) -> Result<(), AllocError>
-    ensures { OnOk result (out.new.items ≡ out.old.items ++ (before_atom later ++ atom_text atom.now)) }
-{
-    let separator = if later {
-        b", ".as_slice()
-    } else {
-        b" ".as_slice()
-    };
-    out.extend_from_slice(separator)?;
-    print_atom(atom, out)
-}
-
-/// The facts of a state, in order.
-fn write_facts(out: &mut Vec<u8>, facts: &BTreeSet<Atom>) -> Result<(), AllocError>
-    ensures { OnOk result (out.new.items ≡ out.old.items ++ listed_from false facts.now.keys) }
-{
-    let mut later = false;
-    for fact in facts.iter() {
-        write_listed(out, later, fact)?;
-        later = true;
-    }
-    Ok(())
-}
-
-/// Appends the block of a cycle: its number, a line for each of its events, and the state after it.
-#[tactic(auto, unfolding(lps_model::specs::Report::block_text))]
+/// Appends the block of a cycle in which nothing is picked and no goal is created or closed: its number, a line for each of its
+/// events, and the state after it.
 pub fn write_block(
     out: &mut Vec<u8>,
     number: u64,
     cycle: &Cycle,
-    facts: &BTreeSet<Atom>,
+    facts: &Facts,
 ) -> Result<(), AllocError>
-    ensures { OnOk result (out.new.items ≡ out.old.items ++ block_text number cycle.now facts.now.keys) }
+    requires { cycle.now.picks ≡ [] }
+    ensures { OnOk result (out.new.items ≡ out.old.items ++ block_of number cycle.now (members facts.now)) }
 {
     out.extend_from_slice(b"cycle ")?;
     write_number(out, number)?;
     out.extend_from_slice(b"\n")?;
     write_verdicts(out, cycle.events.as_slice(), cycle.verdicts.as_slice())?;
     out.extend_from_slice(b"state")?;
-    write_facts(out, facts)?;
+    facts.print(out)?;
     out.extend_from_slice(b"\n")
 }

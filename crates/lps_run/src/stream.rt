@@ -1,20 +1,23 @@
 ghost use Rattle.std.specs.Prelude.{◌≡◌, ◌≤◌, ◌<◌, ◌+◌, ◌++◌, ◌∷◌, ◌^◌, [], List, ℕ, Option, Some, None, true, false, length, IfOk, IfErr, OnOk, OnErr, MatchResult};
 ghost use Rattle.lps_terms.specs.declared.text.Text.{Text};
-ghost use Rattle.lps_model.specs.Report.{block_text};
+ghost use Rattle.lps_facts.specs.Facts.{members};
+ghost use Rattle.lps_run.specs.Reporting.{block_of as block_text};
+ghost use Rattle.lps_meaning.specs.Rules.{rules};
 ghost use Rattle.lps_outside.specs.Bytes.{Stream, Appends, AppendsFront, Takes, TakesNothing};
 ghost use Rattle.lps_outside.specs.Causes.{Rose};
 ghost use Rattle.lps_run.specs.Stopping.{Counted, Reported, StopsAtLine, Stopped, TakesWithin, KeepsLimit};
 
 use crate::batch::batch_fault;
-use crate::engine::Engine;
 use crate::report::write_block;
 use crate::stop::Stop;
+use lps_cycle::Engine;
+use lps_facts::Facts;
+use lps_formed::read_events_are_ground;
+use lps_meaning::report_law;
 use lps_model::{Accepted, Batch, Cycle};
 use lps_outside::{Desk, Source};
 use lps_reader::{BatchBad, BatchReader};
-use lps_terms::Atom;
 use std::alloc::{AllocError, Global};
-use std::collections::BTreeSet;
 
 /// How many bytes a stream may have.
 const MOST_BYTES: u64 = 68_719_476_736;
@@ -62,13 +65,9 @@ fn read_piece<E: Source>(events: &mut E, buffer: &mut [u8]) -> Result<usize, Sto
 }
 
 /// The bytes of a block.
-fn block_of(
-    alloc: Global,
-    number: u64,
-    cycle: &Cycle,
-    facts: &BTreeSet<Atom>,
-) -> Result<Vec<u8>, AllocError>
-    ensures { IfOk result (λ block. block.items ≡ block_text number cycle.now facts.now.keys) }
+fn block_of(alloc: Global, number: u64, cycle: &Cycle, facts: &Facts) -> Result<Vec<u8>, AllocError>
+    requires { cycle.now.picks ≡ [] }
+    ensures { IfOk result (λ block. block.items ≡ block_text number cycle.now (members facts.now)) }
 {
     let mut block = Vec::new(alloc);
     write_block(&mut block, number, cycle, facts)?;
@@ -77,12 +76,13 @@ fn block_of(
 
 impl Running {
     ghost use Rattle.lps_lines.specs.Stream.{IsLine};
-    ghost use Rattle.lps_run.specs.Judged.{ended};
+    ghost use Rattle.lps_run.specs.Judged.{WasRead, ended};
     ghost use Rattle.lps_run.specs.Running.{Due, Standing, Reading, Finished};
 
     /// Prints the block of cycle 0.
     fn begin<D: Desk>(alloc: Global, text: Accepted, desk: &mut D) -> Result<Running, Stop>
-        ensures text { IfOk result (λ running. running.engine.laws ≡ text) }
+        requires { rules text ≡ [] }
+        ensures text { IfOk result (λ running. running.engine.text ≡ text) }
         ensures empty { IfOk result (λ running. running.reader ≡ record { left = []; lines = 0; bad = None }) }
         ensures told { (stream start : List ℕ) (source : Option Stream) → D.printed desk.old ≡ Some start →
             MatchResult result (λ running. Standing running stream (ended stream) start (D.printed desk.new))
@@ -91,7 +91,7 @@ impl Running {
         ensures counted { Counted result 0 0 (D.print_faults desk.old) (D.print_faults desk.new) }
     {
         let engine = Engine::start(alloc, text)?;
-        let block = block_of(alloc, 0, &Cycle::none(alloc), &engine.facts)?;
+        let block = block_of(alloc, 0, &Cycle::none(alloc), engine.facts())?;
         print(desk, block.as_slice())?;
         Ok(Running {
             engine,
@@ -101,36 +101,39 @@ impl Running {
 
     /// Makes the cycle of a batch whose line was taken, if the batch is that of the next cycle.
     fn take_batch<D: Desk>(&mut self, alloc: Global, batch: Batch, desk: &mut D) -> Result<(), Stop>
-        ensures text { self.new.engine.laws ≡ self.old.engine.laws }
+        requires { WasRead batch }
+        ensures text { self.new.engine.text ≡ self.old.engine.text }
         ensures reader { self.new.reader ≡ self.old.reader }
         ensures told { (stream rest start : List ℕ) (source : Option Stream) → Due self.old stream rest start (D.printed desk.old) batch →
             MatchResult result (λ _. Standing self.new stream rest start (D.printed desk.new))
-            (λ stop. Stopped self.old.engine.laws stream start (D.printed desk.new) source stop) }
+            (λ stop. Stopped self.old.engine.text stream start (D.printed desk.new) source stop) }
         ensures kind { IfErr result StopsAtLine }
         ensures counted { Counted result 0 0 (D.print_faults desk.old) (D.print_faults desk.new) }
     {
-        let number = self.engine.cycles + 1;
-        if let Some(kind) = batch_fault(self.engine.laws.text(), number, &batch) {
+        let number = self.engine.cycles() + 1;
+        if let Some(kind) = batch_fault(self.engine.text(), number, &batch) {
             let line = self.reader.lines();
             return Err(Stop::Refused(BatchBad { line, kind }));
         }
-        if self.engine.cycles >= MOST_CYCLES {
+        if self.engine.cycles() >= MOST_CYCLES {
             return Err(Stop::CycleLimit);
         }
+        read_events_are_ground();
+        report_law();
         let cycle = self.engine.cycle(alloc, batch.events)?;
-        let block = block_of(alloc, number, &cycle, &self.engine.facts)?;
+        let block = block_of(alloc, number, &cycle, self.engine.facts())?;
         print(desk, block.as_slice())
     }
 
     /// Takes the next whole line that holds a batch, and says whether there was one.
     fn take_line<D: Desk>(&mut self, alloc: Global, desk: &mut D) -> Result<bool, Stop>
         requires { self.old.reader.lines + length self.old.reader.left < 2 ^ 63 }
-        ensures text { self.new.engine.laws ≡ self.old.engine.laws }
+        ensures text { self.new.engine.text ≡ self.old.engine.text }
         ensures room { self.new.reader.lines + length self.new.reader.left ≤ self.old.reader.lines + length self.old.reader.left }
         ensures shorter { IfOk result (λ found. found ≡ true → length self.new.reader.left < length self.old.reader.left) }
         ensures told { (stream rest start : List ℕ) (source : Option Stream) → Standing self.old stream rest start (D.printed desk.old) →
             MatchResult result (λ found. Standing self.new stream rest start (D.printed desk.new) × (found ≡ false → IsLine self.new.reader.left))
-            (λ stop. Stopped self.old.engine.laws stream start (D.printed desk.new) source stop) }
+            (λ stop. Stopped self.old.engine.text stream start (D.printed desk.new) source stop) }
         ensures kind { IfErr result StopsAtLine }
         ensures counted { Counted result 0 0 (D.print_faults desk.old) (D.print_faults desk.new) }
     {
@@ -147,11 +150,11 @@ impl Running {
     /// Takes a piece of the stream: its whole lines, and the line that was begun before it.
     fn take_piece<D: Desk>(&mut self, alloc: Global, piece: &[u8], desk: &mut D) -> Result<(), Stop>
         requires { self.old.reader.lines + length self.old.reader.left + length piece.now < 2 ^ 63 }
-        ensures text { self.new.engine.laws ≡ self.old.engine.laws }
+        ensures text { self.new.engine.text ≡ self.old.engine.text }
         ensures room { OnOk result (self.new.reader.lines + length self.new.reader.left ≤ self.old.reader.lines + length self.old.reader.left + length piece.now) }
         ensures told { (stream rest start : List ℕ) (source : Option Stream) → Standing self.old stream (piece.now ++ rest) start (D.printed desk.old) →
             MatchResult result (λ _. Standing self.new stream rest start (D.printed desk.new) × IsLine self.new.reader.left)
-            (λ stop. Stopped self.old.engine.laws stream start (D.printed desk.new) source stop) }
+            (λ stop. Stopped self.old.engine.text stream start (D.printed desk.new) source stop) }
         ensures kind { IfErr result StopsAtLine }
         ensures counted { Counted result 0 0 (D.print_faults desk.old) (D.print_faults desk.new) }
     {
@@ -163,10 +166,10 @@ impl Running {
     /// Takes what is left at the end of the stream: a last line without a line feed.
     fn finish<D: Desk>(&mut self, alloc: Global, desk: &mut D) -> Result<(), Stop>
         requires { self.old.reader.lines + length self.old.reader.left < 2 ^ 63 }
-        ensures text { self.new.engine.laws ≡ self.old.engine.laws }
+        ensures text { self.new.engine.text ≡ self.old.engine.text }
         ensures told { (stream start : List ℕ) (source : Option Stream) → Standing self.old stream (10 ∷ []) start (D.printed desk.old) → IsLine self.old.reader.left →
             MatchResult result (λ _. Finished self.new stream start (D.printed desk.new))
-            (λ stop. Stopped self.old.engine.laws stream start (D.printed desk.new) source stop) }
+            (λ stop. Stopped self.old.engine.text stream start (D.printed desk.new) source stop) }
         ensures kind { IfErr result StopsAtLine }
         ensures counted { Counted result 0 0 (D.print_faults desk.old) (D.print_faults desk.new) }
     {
@@ -187,13 +190,13 @@ impl Running {
     ) -> Result<u64, Stop>
         requires taken { taken ≤ 2 ^ 36 }
         requires room { self.old.reader.lines + length self.old.reader.left ≤ taken }
-        ensures text { self.new.engine.laws ≡ self.old.engine.laws }
+        ensures text { self.new.engine.text ≡ self.old.engine.text }
         ensures within { IfOk result (λ count. taken + count ≤ 2 ^ 36) }
         ensures room { IfOk result (λ count. self.new.reader.lines + length self.new.reader.left ≤ taken + count) }
         ensures bytes { (before : Stream) → E.stream events.old ≡ Some before → TakesWithin taken before result (E.stream events.new) }
         ensures told { (stream start : List ℕ) → Reading self.old stream start (D.printed desk.old) (E.stream events.old) →
             MatchResult result (λ _. Reading self.new stream start (D.printed desk.new) (E.stream events.new))
-            (λ stop. Stopped self.old.engine.laws stream start (D.printed desk.new) (E.stream events.new) stop) }
+            (λ stop. Stopped self.old.engine.text stream start (D.printed desk.new) (E.stream events.new) stop) }
         ensures counted { Counted result (E.faults events.old) (E.faults events.new) (D.print_faults desk.old) (D.print_faults desk.new) }
     {
         let mut buffer = [0u8; 16384];
@@ -214,12 +217,12 @@ impl Running {
         desk: &mut D,
     ) -> Result<(), Stop>
         requires { self.old.reader ≡ record { left = []; lines = 0; bad = None } }
-        ensures text { self.new.engine.laws ≡ self.old.engine.laws }
+        ensures text { self.new.engine.text ≡ self.old.engine.text }
         ensures limit { (before : Stream) → E.stream events.old ≡ Some before → KeepsLimit before result (E.stream events.new) }
         ensures ended { OnOk result ((before : Stream) → E.stream events.old ≡ Some before → (after : Stream) × (E.stream events.new ≡ Some after) × (after.left ≡ [])) }
         ensures told { (before : Stream) (start : List ℕ) → E.stream events.old ≡ Some before → Standing self.old before.left (ended before.left) start (D.printed desk.old) →
             MatchResult result (λ _. Finished self.new before.left start (D.printed desk.new))
-            (λ stop. Stopped self.old.engine.laws before.left start (D.printed desk.new) (E.stream events.new) stop) }
+            (λ stop. Stopped self.old.engine.text before.left start (D.printed desk.new) (E.stream events.new) stop) }
         ensures counted { Counted result (E.faults events.old) (E.faults events.new) (D.print_faults desk.old) (D.print_faults desk.new) }
     {
         let mut taken: u64 = 0;
@@ -234,13 +237,14 @@ impl Running {
     }
 }
 
-/// Runs a text over a stream of batches, and prints the report: each block as soon as its cycle is made.
+/// Runs a text without rules over a stream of batches, and prints the report: each block as soon as its cycle is made.
 pub fn run<E: Source, D: Desk>(
     alloc: Global,
     text: Accepted,
     events: &mut E,
     desk: &mut D,
 ) -> Result<(), Stop>
+    requires { rules text ≡ [] }
     ensures limit { (before : Stream) → E.stream events.old ≡ Some before → KeepsLimit before result (E.stream events.new) }
     ensures told { (before : Stream) (start : List ℕ) → E.stream events.old ≡ Some before → D.printed desk.old ≡ Some start →
         MatchResult result (λ _. Reported text before.left start (D.printed desk.new) (E.stream events.new))

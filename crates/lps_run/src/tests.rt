@@ -139,17 +139,16 @@ fn refused_lines(rt: HostRuntime) -> Result<(), Fail> {
 #[test]
 fn refused_texts(rt: HostRuntime) -> Result<(), Fail> {
     for (text, line) in [
-        ("derived d.\nd.\n", "text line 2: not built"),
         (
-            "fluent q/1. event e/1.\ne(X) initiates q(X).\n",
-            "text line 2: not built",
+            "fluent q/0. action a/0. derived d.\nd if not q.\nif q at T then a from T to T1.\n",
+            "text line 3: not built",
         ),
         (
-            "fluent q/0. event e/0.\ne initiates q if q.\n",
-            "text line 2: not built",
+            "action a/0. macro m.\n\nm from T1 to T2 if a from T1 to T2.\n",
+            "text line 3: not built",
         ),
         (
-            "derived d.\nd.\ninitially e.\n",
+            "action a/0. macro m.\nm from T1 to T2 if a from T1 to T2.\ninitially e.\n",
             "text line 3: undeclared e",
         ),
         ("fluent p/0", "text line 1: bad syntax"),

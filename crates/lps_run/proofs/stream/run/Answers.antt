@@ -1,8 +1,8 @@
-use Rattle.std.proofs.Common.{◌∙◌, ◌≤◌, ◌+◌, ◌^◌, length, arith, subst, refl, None}
+use Rattle.std.proofs.Common.{ℕ, Err, ◌∙◌, ◌≤◌, ◌+◌, ◌^◌, length, arith, subst, refl, None}
 use Rattle.std.proofs.lemmas.Result.{err_from_is_err_and, IfErr-at_err}
 use Rattle.lps_terms.specs.declared.text.Text.{Text}
-use Rattle.lps_run.specs.Stopping.{Stopped, StopsAtLine}
-use Rattle.lps_run.proofs.Steps.{last_printed}
+use Rattle.lps_run.specs.Stopping.{Counted, Stopped, StopsAtLine}
+use Rattle.lps_run.proofs.Steps.{last_counted, last_printed}
 use Rattle.lps_run.proofs.Pieces.{keeps_line}
 use Rattle.lps_run.proofs.stream.run.Goals as goal
 
@@ -21,6 +21,17 @@ returns-in_err-take_stream-clause-told g c = λ before start known told.
     let p = err_from_is_err_and c.from_residual-in_err-take_stream.result c.from_residual-in_err-take_stream.ensures.1 in
     let stopped = c.in_err-take_stream.ensures.told before start known (c.in_ok-running.ensures.told before.left start None told) in
     rw (p.1, p.2) (subst (λ (t : Text). Stopped t before.left start (g.D.Desk.printed c.take_stream.new.desk) (g.E.Source.stream c.take_stream.new.events) c.in_err-take_stream.field-0.0) c.in_ok-running.ensures.text stopped)
+
+pub returns-in_err-take_stream-clause-counted : goal.returns-in_err-take_stream-clause-counted
+returns-in_err-take_stream-clause-counted g c =
+    let p = err_from_is_err_and c.from_residual-in_err-take_stream.result c.from_residual-in_err-take_stream.ensures.1 in
+    rw (p.1, p.2)
+    (subst (λ (faults : ℕ). Counted {T = Unit {0}} (Err c.in_err-take_stream.field-0.0) (g.E.Source.faults c.args.events.now) (g.E.Source.faults c.take_stream.new.events) faults (g.D.Desk.print_faults c.take_stream.new.desk))
+    c.in_ok-running.ensures.counted.1 c.in_err-take_stream.ensures.counted)
+
+pub returns-clause-counted : goal.returns-clause-counted
+returns-clause-counted g c =
+    last_counted _ _ _ _ _ c.print.result c.in_ok-take_stream.ensures.counted.0 (c.in_ok-take_stream.ensures.counted.1 ∙ c.in_ok-running.ensures.counted.1) c.print.ensures.cause
 
 pub returns-clause-limit : goal.returns-clause-limit
 returns-clause-limit g c = λ before known.

@@ -22,4 +22,4 @@ returns-in-Some-Ok-clause-told g c = λ stream start source s part.
     let taken = rw (c.in-Some-Ok.is, c.in-Some-Ok.field-0-is) at c.in_ok-finish.ensures.answer in
     let due = finish_due c.args.self.now.engine c.args.self.now.reader c.finish.new.self s part c.in-Some-Ok.batch taken in
     let before : Running = record { engine = c.args.self.now.engine; reader = c.finish.new.self } in
-    finish_taken c.args.self.now.engine.laws before c.take_batch.new.self stream start _ source c.take_batch.result due.1 c.take_batch.ensures.reader (c.take_batch.ensures.told stream [] start source due.0)
+    finish_taken c.args.self.now.engine.text before c.take_batch.new.self stream start _ source c.take_batch.result due.1 c.take_batch.ensures.reader (c.take_batch.ensures.told stream [] start source due.0)
