@@ -47,7 +47,7 @@ def main():
             Path(text).write_text(text_of(names))
             write_stream(stream, 0, names)
             start, _ = best(["run", text], stream)
-            for cycles in (1_000, 10_000, 100_000, 1_000_000):
+            for cycles in (1_000, 10_000, 100_000):
                 write_stream(stream, cycles, names)
                 seconds, memory = best(["run", text], stream)
                 per_cycle = max(seconds - start, 1e-6) / cycles
