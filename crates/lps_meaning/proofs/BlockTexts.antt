@@ -188,7 +188,7 @@ judged_paired text level depth trace before [] (v ∷ vs) h = absurd h
 judged_paired text level depth trace before (x ∷ xs) [] h = absurd h
 judged_paired text level depth trace before (x ∷ xs) (v ∷ vs) h = ap suc (judged_paired text level depth trace (before ++ if_admitted v x) xs vs h.1)
 
-legal_paired : (text : Text) (level : List ℕ → ℕ) (depth : ℕ) (before : Trace) (cycles : List Cycle) → AreLegal text level depth before cycles → AllByRecursion IsPaired cycles
+pub legal_paired : (text : Text) (level : List ℕ → ℕ) (depth : ℕ) (before : Trace) (cycles : List Cycle) → AreLegal text level depth before cycles → AllByRecursion IsPaired cycles
 legal_paired text level depth before [] h = tt
 legal_paired text level depth before (cycle ∷ cycles) h =
     (judged_paired text level depth before [] cycle.events cycle.verdicts h.0.judged, legal_paired text level depth (then_cycle before cycle) cycles h.1)

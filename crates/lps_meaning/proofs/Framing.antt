@@ -2,7 +2,6 @@
 use Rattle.std.proofs.Common.{ℕ, zero, suc, Bool, true, false, cond, ◌≡◌, List, [], ◌∷◌, ◌++◌, ◌∙◌, refl, sym, ap, subst, arith}
 use Rattle.std.specs.Prelude.{◌&&◌, ◌==◌, if◌then◌else◌, nat_eq, Option, Some, None, slice_get}
 use Rattle.std.specs.List.{AllByRecursion, flat_map, filter}
-use Rattle.std.specs.Option.{option_or}
 use Rattle.std.proofs.lemmas.Bool.{and_parts, not-false}
 use Rattle.std.proofs.lemmas.Bool.Decides.{nat_tests}
 use Rattle.lps_terms.specs.declared.atom.Atom.{Atom}
@@ -11,14 +10,12 @@ use Rattle.lps_terms.specs.declared.body.Body.TheVariants as b
 use Rattle.lps_terms.specs.declared.item.Item.{Item}
 use Rattle.lps_terms.specs.declared.item.Item.TheVariants as i
 use Rattle.lps_terms.specs.declared.kind.Kind.{Kind}
-use Rattle.lps_terms.specs.declared.refused.Refused.{Refused}
 use Rattle.lps_terms.specs.declared.statement.Statement.{Statement}
 use Rattle.lps_terms.specs.declared.time_var.TimeVar.{TimeVar}
 use Rattle.lps_terms.specs.Names.{name_eq}
-use Rattle.lps_model.specs.KindRefusals.{kind_refusal}
-use Rattle.lps_model.specs.Known.{unknown_of}
-use Rattle.lps_model.specs.Order.{happens, are_grouped, joins, with_first, parts, steps_in, steps, last_end_after, last_end, is_time, has_bad_head_times, is_out_of_order, is_mixed_somewhere, first_line, refusal_at, order_refusal}
+use Rattle.lps_model.specs.Order.{happens, are_grouped, joins, with_first, parts, steps_in, steps, last_end_after, last_end, is_time, has_bad_head_times, is_out_of_order, is_mixed_somewhere, first_line, refusal_at}
 use Rattle.lps_model.specs.Order.{first_begin as step_begin}
+use Rattle.lps_meaning.proofs.Stated.{no_order_refused}
 use Rattle.lps_meaning.specs.Laws.{AcceptedAreFramed}
 use Rattle.lps_meaning.specs.Rules.{MacroClause, IsFramed, first_begin, last_end_or, macro_clause_in, macro_clauses, clauses_of, numbered, kind_of}
 
@@ -174,11 +171,6 @@ no_heads None (Some line) heads e = absurd (some_none e)
 no_heads None None (Some line) e = absurd (some_none e)
 no_heads None None None e = refl
 
--- none of two, so not the first, and not the second
-pub neither : (first second : Option Refused) → option_or first second ≡ None → (first ≡ None) × (second ≡ None)
-neither None second e = (refl, e)
-neither (Some refused) second e = absurd (some_none e)
-
 pub accepted_texts_are_framed : AcceptedAreFramed
 accepted_texts_are_framed text accepted = record {
   each = λ name number clause named.
@@ -186,12 +178,7 @@ accepted_texts_are_framed text accepted = record {
       (all_filter (λ clause. name_eq clause.head.name name) (macro_clauses text) (framed_statements (kind_of text) text.statements heads)) named;
 }
   where
-    ordered : order_refusal (kind_of text) text.statements ≡ None
-    ordered =
-        (neither (order_refusal (kind_of text) text.statements) (unknown_of text)
-        (neither (kind_refusal text) (option_or (order_refusal (kind_of text) text.statements) (unknown_of text)) accepted.not_refused).1).0
-
     heads : first_line (has_bad_head_times (kind_of text)) text.statements ≡ None
     heads =
         no_heads (first_line (is_out_of_order (kind_of text)) text.statements) (first_line (is_mixed_somewhere (kind_of text)) text.statements)
-        (first_line (has_bad_head_times (kind_of text)) text.statements) ordered
+        (first_line (has_bad_head_times (kind_of text)) text.statements) (no_order_refused text accepted)

@@ -45,7 +45,7 @@ use Rattle.lps_meaning.proofs.TextPieces.{all_listed, both}
 pub of_element : {X : Type 0} (P : X → Type 0) (xs : List X) (x : X) → AllByRecursion P xs → Contains xs x → P x
 of_element P xs x h among = All-contains P xs x (All-from_recursion P xs h) among
 
-of_each : {X : Type 0} (P : X → Type 0) (xs : List X) → ((x : X) → Contains xs x → P x) → AllByRecursion P xs
+pub of_each : {X : Type 0} (P : X → Type 0) (xs : List X) → ((x : X) → Contains xs x → P x) → AllByRecursion P xs
 of_each P [] h = tt
 of_each P (x ∷ xs) h = (h x (first_is_contained x xs), of_each P xs (λ y among. h y (later_is_contained x xs y among)))
 
@@ -96,7 +96,7 @@ module _ (variables : ℕ) (s : ℕ → Term) (ground : (v : ℕ) → IsTrue (is
   every_grounds [] = tt
   every_grounds (x ∷ ts) = (grounds x, every_grounds ts)
 
-  ground_atom : (a : Atom) → is_formed_atom variables a ≡ true → IsGroundAtom (put_atom s a)
+  pub ground_atom : (a : Atom) → is_formed_atom variables a ≡ true → IsGroundAtom (put_atom s a)
   ground_atom a h =
       let parts = both (is_proper_name a.name && nat_le (length a.args) 64) (list_all (is_formed_term variables) a.args) h in
       ((both (is_proper_name a.name) (nat_le (length a.args) 64) parts.0).0, all_grounds a.args (every_grounds a.args) parts.1)

@@ -2,7 +2,9 @@ pub mod Persistence
 pub mod Walks
 pub mod Splits
 pub mod Statuses
+pub mod Stated
 pub mod Framing
+pub mod Prevented
 pub mod Freshness
 pub mod Prefixes
 pub mod Continuations
@@ -16,6 +18,7 @@ pub mod AtomTexts
 pub mod BlockTexts
 pub mod BlockLines
 pub mod GroundRuns
+pub mod GroundFacts
 pub mod WholeReports
 mod ExampleWalks
 mod Deadline
@@ -37,6 +40,8 @@ pub mod Unifiers
 pub mod ShownGroups
 pub mod IntegerTimes
 pub mod TimesLeft
+pub mod GroundReports
+pub mod SmallRuns
 pub mod Cleaning
 pub mod Lifting
 pub mod LiftingAlone

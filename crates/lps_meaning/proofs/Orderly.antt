@@ -11,14 +11,13 @@ use Rattle.lps_terms.specs.declared.statement.Statement.{Statement}
 use Rattle.lps_terms.specs.declared.text.Text.{Text}
 use Rattle.lps_terms.specs.Names.{name_eq}
 use Rattle.lps_model.specs.Acceptance.{IsAccepted}
-use Rattle.lps_model.specs.KindRefusals.{kind_refusal}
-use Rattle.lps_model.specs.Known.{unknown_of}
-use Rattle.lps_model.specs.Order.{first_line, follow, has_bad_head_times, has_step, is_mixed_somewhere, is_ordered, is_ordered_after, is_out_of_order, last_end, occurs, order_refusal, refusal_at, steps, times_in, times_of}
+use Rattle.lps_model.specs.Order.{first_line, follow, has_bad_head_times, has_step, is_mixed_somewhere, is_ordered, is_ordered_after, is_out_of_order, last_end, occurs, refusal_at, steps, times_in, times_of}
+use Rattle.lps_meaning.proofs.Stated.{no_order_refused}
 use Rattle.lps_meaning.specs.Goals.{distinct, item_times, shared_times}
 use Rattle.lps_meaning.specs.Rules.{MacroClause, Rule, clauses_of, first_begin, kind_of, macro_clause_in, macro_clauses, numbered, rule_in, rules}
 use Rattle.lps_meaning.specs.Sequences.{entries, start}
 use Rattle.lps_meaning.proofs.Colours.{AreApart, AreOrderly, Colour, Colours, EndsApart, IsColoured, begins_alone, map_front}
-use Rattle.lps_meaning.proofs.Framing.{accepted_texts_are_framed, neither, no_line}
+use Rattle.lps_meaning.proofs.Framing.{accepted_texts_are_framed, no_line}
 use Rattle.lps_meaning.proofs.Freshness.{AreFresh, EndsFresh, IsNone, fresh, fresh_weaker, step_times}
 use Rattle.lps_meaning.proofs.Occurrences.{all_joined}
 
@@ -132,7 +131,7 @@ module _ (text : Text) where
   in_order accepted =
       no_order (first_line (is_out_of_order (kind_of text)) text.statements) (first_line (is_mixed_somewhere (kind_of text)) text.statements)
       (first_line (has_bad_head_times (kind_of text)) text.statements)
-      (neither (order_refusal (kind_of text) text.statements) (unknown_of text) (neither (kind_refusal text) _ accepted.not_refused).1).0
+      (no_order_refused text accepted)
 
   pub orderly : IsAccepted text → AreOrderly text
   orderly accepted =

@@ -26,6 +26,7 @@ use Rattle.lps_model.specs.Order.{occurs, order_refusal}
 use Rattle.lps_model.specs.Program.{declarations}
 use Rattle.lps_model.specs.VariableLists.{step_times, item_vars, atom_vars}
 use Rattle.lps_model.proofs.Elements.{first_is_contained}
+use Rattle.lps_meaning.proofs.Stated.{neither}
 use Rattle.lps_meaning.specs.declared.node.Left.{Left}
 use Rattle.lps_meaning.specs.declared.node.LeftCon.{LeftCon}
 use Rattle.lps_meaning.specs.declared.when.When.{When}
@@ -37,7 +38,7 @@ use Rattle.lps_meaning.specs.Rules.{IsFramed, MacroClause, Rule, clauses_of, fir
 use Rattle.lps_meaning.specs.Sequences.{Entry, Link, Place, Values, Times, Walk, stop, pass, replace, start, entries}
 use Rattle.lps_meaning.specs.Shapes.{Sequence, Shape, Whens, alternative_of, antecedent_of, left_of, left_at, left_unknowns, unknowns, con_of, limits_of, HasSameWhens, all_known, shape_of, IsGeneral}
 use Rattle.lps_meaning.proofs.BlockLines.{number_contained}
-use Rattle.lps_meaning.proofs.Framing.{accepted_texts_are_framed, neither}
+use Rattle.lps_meaning.proofs.Framing.{accepted_texts_are_framed}
 use Rattle.lps_meaning.proofs.GroundRuns.{of_element, of_filter, of_flat}
 use Rattle.lps_meaning.proofs.Moves.{links_of, past_of}
 use Rattle.lps_meaning.proofs.NodeLaws.{first_time, second_time}
@@ -59,22 +60,22 @@ either false y e = inr e
 -- ---- times of steps
 
 -- the time is one of the item's, where it is a step
-abbrev IsTimeOf : ℕ → Item → Type 0
+abbrev pub IsTimeOf : ℕ → Item → Type 0
 IsTimeOf v (i.At lit time) = time.0 ≡ v
 IsTimeOf v (i.Span a from to) = (from.0 ≡ v) ⊎ (to.0 ≡ v)
 IsTimeOf v _ = ⊥
 
 -- the time is one of a step of these items
-abbrev IsStepped : ℕ → List Item → Type 0
+abbrev pub IsStepped : ℕ → List Item → Type 0
 IsStepped v [] = ⊥
 IsStepped v (item ∷ items) = IsTimeOf v item ⊎ IsStepped v items
 
 -- both times of a constraint have this property
-abbrev IsConOf : (ℕ → Type 0) → Item → Type 0
+abbrev pub IsConOf : (ℕ → Type 0) → Item → Type 0
 IsConOf P (i.Con con) = P con.left.0 × P con.right.0
 IsConOf P _ = Unit {0}
 
-con_to : (P Q : ℕ → Type 0) → ((v : ℕ) → P v → Q v) → (item : Item) → IsConOf P item → IsConOf Q item
+pub con_to : (P Q : ℕ → Type 0) → ((v : ℕ) → P v → Q v) → (item : Item) → IsConOf P item → IsConOf Q item
 con_to P Q f (i.Con con) h = (f con.left.0 h.0, f con.right.0 h.1)
 con_to P Q f (i.At lit time) h = tt
 con_to P Q f (i.Bare lit) h = tt
@@ -163,13 +164,13 @@ items_known scope wanted known (item ∷ items) e =
     (item_known scope known item parts.0, items_known scope wanted (learnt known (item_vars item)) items parts.1)
 
 -- each time of a constraint is one of a step of these items
-abbrev HaveSteps : List Item → Type 0
+abbrev pub HaveSteps : List Item → Type 0
 HaveSteps items = AllByRecursion (IsConOf (λ v. IsStepped v items)) items
 
-abbrev HaveStepsAfter : List Item → List Item → Type 0
+abbrev pub HaveStepsAfter : List Item → List Item → Type 0
 HaveStepsAfter antecedent items = AllByRecursion (IsConOf (λ v. IsStepped v antecedent ⊎ IsStepped v items)) items
 
-abbrev IsSteppedRule : Rule → Type 0
+abbrev pub IsSteppedRule : Rule → Type 0
 IsSteppedRule rule = HaveSteps rule.antecedent × AllByRecursion (HaveStepsAfter rule.antecedent) rule.alternatives
 
 abbrev IsSteppedClause : MacroClause → Type 0
@@ -227,7 +228,7 @@ module _ (text : Text) (accepted : IsAccepted text) where
       statement_steps (declarations text) text.statements
       (neither (order_refusal (kind_of text) text.statements) (unknown_of text) (neither (kind_refusal text) _ accepted.not_refused).1).1
 
-  rules_stepped : AllByRecursion IsSteppedRule (rules text)
+  pub rules_stepped : AllByRecursion IsSteppedRule (rules text)
   rules_stepped = of_flat (λ s. body_unknown (declarations text) s s.body ≡ None) IsSteppedRule (λ s. rule_in s.body) (λ s. rule_steps (declarations text) s s.body) text.statements each_statement
 
   clauses_stepped : AllByRecursion IsSteppedClause (macro_clauses text)

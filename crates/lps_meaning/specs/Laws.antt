@@ -1,5 +1,5 @@
 -- The laws of the definitions, each a statement over texts, traces and keys.
-use Rattle.std.specs.Prelude.{◌≡◌, ◌⊎◌, ◌↔◌, ◌≤◌, ◌++◌, ℕ, suc, IsTrue, List, length, Option, Some, Contains, true, false, None, ◌∷◌, map}
+use Rattle.std.specs.Prelude.{◌≡◌, ◌⊎◌, ◌↔◌, ◌≤◌, ◌++◌, ℕ, suc, Bool, IsTrue, List, length, Option, Some, Contains, true, false, None, ◌∷◌, map}
 use Rattle.std.specs.List.{AllByRecursion}
 use Rattle.lps_terms.specs.declared.atom.Atom.{Atom}
 use Rattle.lps_terms.specs.declared.item.Item.{Item}
@@ -12,10 +12,14 @@ use Rattle.lps_terms.specs.declared.time_var.TimeVar.{TimeVar}
 use Rattle.lps_model.specs.declared.cycle.Cycle.{Cycle}
 use Rattle.lps_model.specs.declared.trace.Trace.{Trace}
 use Rattle.lps_model.specs.Formed.{is_formed}
+use Rattle.lps_model.specs.Trace.{happens_in}
 use Rattle.lps_model.specs.Acceptance.{IsAccepted}
 use Rattle.lps_derivation.specs.Clauses.{clauses}
+use Rattle.lps_derivation.specs.Derivation.{Follows}
 use Rattle.lps_derivation.specs.Ground.{is_ground}
-use Rattle.lps_derivation.specs.Levels.{AreLevels}
+use Rattle.lps_derivation.specs.Laws.{Passes}
+use Rattle.lps_derivation.specs.Levels.{AreClosed, AreLevels}
+use Rattle.lps_values.specs.Truth.{is_true}
 use Rattle.lps_meaning.specs.declared.goal.Closed.{Closed}
 use Rattle.lps_meaning.specs.declared.goal.Closed.TheVariants as c
 use Rattle.lps_meaning.specs.declared.goal.Counts.{Counts}
@@ -28,12 +32,13 @@ use Rattle.lps_meaning.specs.declared.when.When.TheVariants.{Known}
 use Rattle.lps_meaning.specs.Alone.{Alone, Standing}
 use Rattle.lps_meaning.specs.Conditions.{CanComeTrue, IsLeftSmall, ShowGroups}
 use Rattle.lps_meaning.specs.Cycles.{AreGoals, IsRun}
+use Rattle.lps_meaning.specs.Denials.{ViolatesNone}
 use Rattle.lps_meaning.specs.Goals.{IsClosed, HasStatus, IsMet, IsMetWithin, IsRuleTrue, AreGround, CanGoOn}
 use Rattle.lps_meaning.specs.Items.{IsSmallItem, put_item}
 use Rattle.lps_meaning.specs.Integers.{AreTimesLeft, CanComeTrueIn}
 use Rattle.lps_meaning.specs.Nodes.{IsResidual}
 use Rattle.lps_meaning.specs.Plain.{IsPlainRun}
-use Rattle.lps_meaning.specs.Reports.{AreBlocks, Block, IsBlockOf, IsBlock, IsReport, IsGroundAtom, IsGroundBlock, IsGroundCycle, IsSmallCycle, block_text, AreCounts}
+use Rattle.lps_meaning.specs.Reports.{AreBlocks, Block, IsBlockOf, IsBlock, IsReport, IsGroundAtom, IsGroundBlock, IsGroundCycle, IsSmallBlock, IsSmallCycle, block_text, AreCounts}
 use Rattle.lps_meaning.specs.Rules.{AreFramed, MacroClause, Rule, clauses_of, is_macro, kind_of, numbered, rules}
 use Rattle.lps_meaning.specs.Sequences.{Entry, is_call, is_step, IsPlaced, IsTrueItem, link_at, passed, Place, replaced, Values, Times, Walk, start}
 use Rattle.lps_meaning.specs.Shapes.{Sequence, Shape, IsGeneral, alternative_of, antecedent_of, left_of, put_shape}
@@ -64,10 +69,29 @@ DecidedUpdateLaw = (text : Text) (level : List ℕ → ℕ) (trace : Trace) (i :
     Holds text level trace (suc i) fluent
     ↔ ((Holds text level trace i fluent × (Terminated text level trace (suc i) fluent → ⊥)) ⊎ Initiated text level trace (suc i) fluent)
 
+-- an atom is true in a state where it holds there, or is the head of an instance of a clause whose conditions are met there
+abbrev pub TruthIsByClauses : Type 0
+TruthIsByClauses = (text : Text) (level : List ℕ → ℕ) → AreLevels (clauses text) level → (trace : Trace) (i : ℕ) (a : Atom) →
+    IsTrueAt text level trace i a ↔ (Holds text level trace i a ⊎ Follows (Passes is_true) (IsTrueAt text level trace i) (clauses text) a)
+
+-- Of names whose clauses call these names alone the same is true in two states, of one trace or of two, where the same holds there.
+abbrev pub OtherFluentsDoNotMatter : Type 0
+OtherFluentsDoNotMatter = (text : Text) (level : List ℕ → ℕ) (names : List ℕ → Bool) → AreClosed (clauses text) names → (trace other : Trace) (i j : ℕ) →
+    ((a : Atom) → IsTrue (names a.name) → Holds text level trace i a ↔ Holds text level other j a) →
+    (a : Atom) → IsTrue (names a.name) → IsTrueAt text level trace i a ↔ IsTrueAt text level other j a
+
 -- what is true in a state does not depend on which levels are taken
 abbrev pub LevelsDoNotMatter : Type 0
 LevelsDoNotMatter = (text : Text) (level other : List ℕ → ℕ) → AreLevels (clauses text) level → AreLevels (clauses text) other →
     (trace : Trace) (i : ℕ) (a : Atom) → IsTrueAt text level trace i a ↔ IsTrueAt text other trace i a
+
+-- ---- denials
+
+-- in no cycle of a run of an accepted text does what happens violate a denial
+abbrev pub NoneIsViolated : Type 0
+NoneIsViolated = (text : Text) (level : List ℕ → ℕ) (depth : ℕ) (trace : Trace) → IsAccepted text → IsRun text level depth trace →
+    (before after : List Cycle) (cycle : Cycle) → trace.cycles ≡ before ++ cycle ∷ after →
+    ViolatesNone text level (record { initial = trace.initial; cycles = before }) (happens_in cycle)
 
 -- ---- texts
 
@@ -181,17 +205,31 @@ RunsAreGround = (text : Text) (level : List ℕ → ℕ) (depth : ℕ) (trace : 
 abbrev pub IsGroundReport : Text → (List ℕ → ℕ) → ℕ → Trace → Type 0
 IsGroundReport text level depth trace = (k : ℕ) → k ≤ length trace.cycles → (block : Block) → IsBlockOf text level depth trace k block → IsGroundBlock block
 
--- two runs with the same bytes of all their blocks, one after the other, are one, where what is reported of them is ground
-abbrev pub AllBytesTellRuns : Type 0
-AllBytesTellRuns = (text : Text) (level : List ℕ → ℕ) (depth : ℕ) (trace other : Trace) → IsRun text level depth trace → IsRun text level depth other →
-    IsGroundReport text level depth trace → IsGroundReport text level depth other → (bytes : List ℕ) →
-    AreBlocks text level depth trace 0 (suc (length trace.cycles)) bytes → AreBlocks text level depth other 0 (suc (length other.cycles)) bytes → trace ≡ other
+-- the numbers of denials, goals and rules in it have 64 bits
+pub record IsSmallReport (text : Text) (level : List ℕ → ℕ) (depth : ℕ) (trace : Trace) : Type 0 where
+  pub cycles : AllByRecursion IsSmallCycle trace.cycles
+  pub blocks : (k : ℕ) → k ≤ length trace.cycles → (block : Block) → IsBlockOf text level depth trace k block → IsSmallBlock block
 
--- and so are two runs with the same bytes of the whole report
+-- a run of an accepted and well-formed text whose reported numbers have 64 bits
+pub record IsSmallRun (text : Text) (level : List ℕ → ℕ) (depth : ℕ) (trace : Trace) : Type 0 where
+  pub accepted : IsAccepted text
+  pub formed : IsTrue (is_formed text)
+  pub run : IsRun text level depth trace
+  pub small : IsSmallReport text level depth trace
+
+-- all that is reported of such a run is ground
+abbrev pub ReportsAreGround : Type 0
+ReportsAreGround = (text : Text) (level : List ℕ → ℕ) (depth : ℕ) (trace : Trace) → IsSmallRun text level depth trace → IsGroundReport text level depth trace
+
+-- two such runs with the same bytes of all their blocks, one after the other, are one
+abbrev pub AllBytesTellRuns : Type 0
+AllBytesTellRuns = (text : Text) (level : List ℕ → ℕ) (depth : ℕ) (trace other : Trace) → IsSmallRun text level depth trace → IsSmallRun text level depth other →
+    (bytes : List ℕ) → AreBlocks text level depth trace 0 (suc (length trace.cycles)) bytes → AreBlocks text level depth other 0 (suc (length other.cycles)) bytes → trace ≡ other
+
+-- and so are two with the same bytes of the whole report
 abbrev pub ReportsTellRuns : Type 0
-ReportsTellRuns = (text : Text) (level : List ℕ → ℕ) (depth : ℕ) (trace other : Trace) → IsRun text level depth trace → IsRun text level depth other →
-    IsGroundReport text level depth trace → IsGroundReport text level depth other → (bytes : List ℕ) →
-    IsReport text level depth trace 0 bytes → IsReport text level depth other 0 bytes → trace ≡ other
+ReportsTellRuns = (text : Text) (level : List ℕ → ℕ) (depth : ℕ) (trace other : Trace) → IsSmallRun text level depth trace → IsSmallRun text level depth other →
+    (bytes : List ℕ) → IsReport text level depth trace 0 bytes → IsReport text level depth other 0 bytes → trace ≡ other
 
 -- ---- nodes
 

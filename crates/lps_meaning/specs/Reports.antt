@@ -160,6 +160,11 @@ pub record IsGroundBlock (block : Block) : Type 0 where
   pub created : AllByRecursion IsGroundGoal block.created
   pub closed : AllByRecursion (λ (goal : GoalId × Closed). goal.0.0 < 2 ^ 64) block.closed
 
+-- the numbers of the goals and rules of a block have 64 bits
+pub record IsSmallBlock (block : Block) : Type 0 where
+  pub created : AllByRecursion (λ (new : NewGoal). (new.goal.0 < 2 ^ 64) × (new.key.rule < 2 ^ 64)) block.created
+  pub closed : AllByRecursion (λ (goal : GoalId × Closed). goal.0.0 < 2 ^ 64) block.closed
+
 -- `done` where all counts are 0, else `open P failed F cut C`
 abbrev pub last_line : Counts → List ℕ
 last_line counts = if nat_eq counts.pending 0 && nat_eq counts.failed 0 && nat_eq counts.cut 0

@@ -2,7 +2,7 @@
 
 ghost use Rattle.lps_model.specs.Acceptance.{IsAccepted};
 ghost use Rattle.lps_meaning.specs.Examples.{BegunAnewExample, DeadlineExample, DepthExample, FireExample, InitiationWinsExample, NestingExample, NodeExample, OldStateExample, OneAfterOtherExample, OneGoalExample, OneOrderExample, OtherAlternativeExample, ParcelOfficeExample, RejectExample, WaitingExample};
-ghost use Rattle.lps_meaning.specs.Laws.{AcceptedAreFramed, AllBytesTellRuns, AtomsAreTold, BlocksAreUnique, BlocksStay, BlocksTellRuns, BytesTellBlocks, BytesTellRuns, CutIsForever, DecidedUpdateLaw, FailedIsForever, GeneralAreVariants, GeneralIsReached, GoalsAreUnique, HoldsIsPersistence, IntegersServe, LevelsDoNotMatter, NumbersStay, PassesAreWalked, PlainRunsAreRuns, PlainRunsAreUnique, PlansCanComeTrue, PlansShowGroups, ReportsAreUnique, ReportsTellRuns, ResidualsAreUnique, RulesAreTrue, RunsAreGround, StartIsGeneral, StartLaw, StatusStays, StatusesAreUnique, StepsAloneAreWalked, StepsAreGeneral, TimesAreLeft, UnfoldingsAreWalked, UpdateLaw, WaitingPlansGoOn, WhatCanComeTrueHasPlans};
+ghost use Rattle.lps_meaning.specs.Laws.{AcceptedAreFramed, AllBytesTellRuns, AtomsAreTold, BlocksAreUnique, BlocksStay, BlocksTellRuns, BytesTellBlocks, BytesTellRuns, CutIsForever, DecidedUpdateLaw, FailedIsForever, GeneralAreVariants, GeneralIsReached, GoalsAreUnique, HoldsIsPersistence, IntegersServe, LevelsDoNotMatter, NoneIsViolated, NumbersStay, OtherFluentsDoNotMatter, PassesAreWalked, PlainRunsAreRuns, PlainRunsAreUnique, PlansCanComeTrue, PlansShowGroups, ReportsAreGround, ReportsAreUnique, ReportsTellRuns, ResidualsAreUnique, RulesAreTrue, RunsAreGround, StartIsGeneral, StartLaw, StatusStays, StatusesAreUnique, StepsAloneAreWalked, StepsAreGeneral, TimesAreLeft, TruthIsByClauses, UnfoldingsAreWalked, UpdateLaw, WaitingPlansGoOn, WhatCanComeTrueHasPlans};
 
 /// A fluent holds in a state exactly where it began by then and did not end since. So state i+1 is state i without
 /// the fluents that are terminated in cycle i+1, together with those that are initiated there; state 0 has the
@@ -14,9 +14,18 @@ pub fn state_law()
     ensures decided { DecidedUpdateLaw }
 {}
 
-/// What is true in a state does not depend on which levels of the clauses are taken.
-pub fn level_law()
-    ensures { LevelsDoNotMatter }
+/// An atom is true in a state where it holds, or follows by a clause there. What is true in a state does not depend on which
+/// levels of the clauses are taken, nor on fluents that the clauses do not reach: so a timeless atom is true in all states or in
+/// none.
+pub fn truth_law()
+    ensures by_clauses { TruthIsByClauses }
+    ensures levels { LevelsDoNotMatter }
+    ensures reach { OtherFluentsDoNotMatter }
+{}
+
+/// What happens in a cycle of a run violates no denial of an accepted text: neither the events nor the picks, nor all together.
+pub fn denial_law()
+    ensures { NoneIsViolated }
 {}
 
 /// Each macro clause of an accepted text begins with its first step and ends with its last.
@@ -53,9 +62,9 @@ pub fn plain_law()
 
 /// The block of a cycle depends on the cycles up to it alone. A cycle has one block, a trace has one report, and
 /// what is reported of all cycles tells the run. Ground atoms are told by their texts, and ground blocks by their
-/// bytes; so two runs of as many ground cycles, with blocks of the same bytes, are one. Ground blocks that stand one after
-/// the other can be told apart, so two runs are one that have the same bytes of all blocks, or the same report. The
-/// cycles of a run of a well-formed text are ground, as long as their numbers have 64 bits.
+/// bytes; so two runs of as many ground cycles, with blocks of the same bytes, are one. All that is reported of a run of an
+/// accepted and well-formed text is ground, as long as its numbers have 64 bits. So two such runs are one that have the same
+/// bytes of all blocks, or the same report, since blocks that stand one after the other can be told apart.
 pub fn report_law()
     ensures blocks_stay { BlocksStay }
     ensures blocks { BlocksAreUnique }
@@ -67,6 +76,7 @@ pub fn report_law()
     ensures report_bytes { AllBytesTellRuns }
     ensures whole_report { ReportsTellRuns }
     ensures ground { RunsAreGround }
+    ensures ground_report { ReportsAreGround }
 {}
 
 /// What is left of a sequence: each place of a walk has a most general shape, which single steps reach and lead to. In a

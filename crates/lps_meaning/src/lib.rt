@@ -17,8 +17,8 @@ mod when;
 pub use copy::{copy_cycle, copy_key, copy_node};
 pub use goal::{Closed, Counts, GoalId, GoalKey, NewGoal};
 pub use laws::{
-    example_law, frame_law, goal_law, level_law, node_law, plain_law, report_law, rule_law,
-    state_law, status_law,
+    denial_law, example_law, frame_law, goal_law, node_law, plain_law, report_law, rule_law,
+    state_law, status_law, truth_law,
 };
 pub use node::{Carry, Left, LeftCon, LeftItem, Node};
 pub use when::When;

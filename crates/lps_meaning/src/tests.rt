@@ -1,7 +1,7 @@
 use crate::{
-    Carry, GoalKey, Left, LeftItem, Node, When, copy_cycle, copy_key, copy_node, example_law,
-    frame_law, goal_law, level_law, node_law, plain_law, report_law, rule_law, state_law,
-    status_law,
+    Carry, GoalKey, Left, LeftItem, Node, When, copy_cycle, copy_key, copy_node, denial_law,
+    example_law, frame_law, goal_law, node_law, plain_law, report_law, rule_law, state_law,
+    status_law, truth_law,
 };
 use lps_model::{Cycle, Group, Pick, Verdict};
 use lps_terms::{Atom, Name, Term};
@@ -91,7 +91,8 @@ fn copied_node(rt: HostRuntime) -> Result<(), Fail> {
 #[test]
 fn laws_do_nothing() {
     state_law();
-    level_law();
+    truth_law();
+    denial_law();
     frame_law();
     status_law();
     rule_law();

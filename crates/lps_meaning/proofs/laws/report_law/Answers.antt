@@ -6,7 +6,7 @@ use Rattle.lps_meaning.proofs.AtomTexts.{same_atom_text}
 use Rattle.lps_meaning.proofs.BlockLines.{block_told}
 use Rattle.lps_meaning.proofs.BlockTexts.{trace_of_bytes}
 use Rattle.lps_meaning.proofs.GroundRuns.{run_ground}
-use Rattle.lps_meaning.proofs.WholeReports.{run_of_blocks, run_of_report}
+use Rattle.lps_meaning.proofs.SmallRuns.{small_run_ground, small_run_of_blocks, small_run_of_report}
 use Rattle.lps_meaning.proofs.laws.report_law.Goals as goal
 
 le_self : (n : ℕ) → n ≤ n
@@ -39,7 +39,10 @@ pub returns-clause-ground : goal.returns-clause-ground
 returns-clause-ground c = run_ground
 
 pub returns-clause-report_bytes : goal.returns-clause-report_bytes
-returns-clause-report_bytes c = run_of_blocks
+returns-clause-report_bytes c = small_run_of_blocks
 
 pub returns-clause-whole_report : goal.returns-clause-whole_report
-returns-clause-whole_report c = run_of_report
+returns-clause-whole_report c = small_run_of_report
+
+pub returns-clause-ground_report : goal.returns-clause-ground_report
+returns-clause-ground_report c = small_run_ground
