@@ -1,9 +1,8 @@
 -- No refusal that comes before levels is for a cycle.
 use Rattle.std.specs.Prelude.{◌≡◌, ℕ, Bool, true, false, List, [], ◌∷◌, Option, Some, None, if◌then◌else◌}
 use Rattle.std.specs.Option.{option_or}
-use Rattle.std.proofs.Common.{sym, subst}
+use Rattle.std.proofs.Common.{subst}
 use Rattle.lps_terms.specs.declared.decl.Decl.{Decl}
-use Rattle.lps_terms.specs.declared.kind.Kind.{Kind}
 use Rattle.lps_terms.specs.declared.refused.Refused.{Refused}
 use Rattle.lps_terms.specs.declared.refused.Refused.TheVariants.{Undeclared, DeclaredTwice, WrongArity, WrongKind, NotGround, NoEvent, OutOfOrder, MixedGroup, BadHeadTimes, Unknown, Unlevelled}
 use Rattle.lps_terms.specs.declared.statement.Statement.{Statement}
@@ -12,7 +11,7 @@ use Rattle.lps_model.specs.declared.declaration.Declaration.{Declaration}
 use Rattle.lps_model.specs.declared.occurrence.Occurrence.{Occurrence}
 use Rattle.lps_model.specs.Acceptance.{early_refusal, IsRefusedFor}
 use Rattle.lps_model.specs.Declarations.{kind_among}
-use Rattle.lps_model.specs.KindRefusals.{first_again, first_where, has_no_event, is_not_ground, is_undeclared, is_wrong_arity, is_wrong_kind, kind_refusal, name_refusal, no_event, not_ground, or_else, refused_by, statement_refusal, twice_by}
+use Rattle.lps_model.specs.KindRefusals.{first_again, first_where, has_no_event, is_not_ground, is_undeclared, is_wrong_arity, is_wrong_kind, kind_refusal, name_refusal, no_event, not_ground, refused_by, statement_refusal, twice_by}
 use Rattle.lps_model.specs.Known.{body_unknown, refused_or, statements_unknown, unknown_of}
 use Rattle.lps_model.specs.Occurrences.{all_declared, occurrences}
 use Rattle.lps_model.specs.Order.{first_line, has_bad_head_times, is_mixed_somewhere, is_out_of_order, order_refusal, refusal_at}
@@ -26,10 +25,6 @@ IsEarly refused = Unit {0}
 abbrev AreEarly : Option Refused → Type 0
 AreEarly None = Unit {0}
 AreEarly (Some refused) = IsEarly refused
-
-or_else_early : (one other : Option Refused) → AreEarly one → AreEarly other → AreEarly (or_else one other)
-or_else_early None other first later = later
-or_else_early (Some refused) other first later = first
 
 option_or_early : (one other : Option Refused) → AreEarly one → AreEarly other → AreEarly (option_or one other)
 option_or_early None other first later = later
@@ -57,16 +52,16 @@ no_event_early (s ∷ ss) = if_early (has_no_event s.body) (NoEvent s.line) (no_
 
 name_early : (text : Text) (decls : List Decl) (os : List Occurrence) → AreEarly (name_refusal text decls os)
 name_early text decls os =
-    or_else_early _ _ (by_early Undeclared (λ line name. tt) (first_where (λ o found. is_undeclared found) decls os))
-    (or_else_early _ _ (twice_early (first_again [] (all_declared text)))
-    (or_else_early _ _ (by_early WrongArity (λ line name. tt) (first_where (λ o found. is_wrong_arity o.count found) decls os))
+    option_or_early _ _ (by_early Undeclared (λ line name. tt) (first_where (λ o found. is_undeclared found) decls os))
+    (option_or_early _ _ (twice_early (first_again [] (all_declared text)))
+    (option_or_early _ _ (by_early WrongArity (λ line name. tt) (first_where (λ o found. is_wrong_arity o.count found) decls os))
     (by_early WrongKind (λ line name. tt) (first_where (λ o found. is_wrong_kind o.place found) decls os))))
 
 kind_early : (text : Text) → AreEarly (kind_refusal text)
 kind_early text =
-    or_else_early (name_refusal text (declarations text) (occurrences (declarations text) text)) (statement_refusal text.statements)
+    option_or_early (name_refusal text (declarations text) (occurrences (declarations text) text)) (statement_refusal text.statements)
     (name_early text (declarations text) (occurrences (declarations text) text))
-    (or_else_early (not_ground text.statements) (no_event text.statements) (not_ground_early text.statements) (no_event_early text.statements))
+    (option_or_early (not_ground text.statements) (no_event text.statements) (not_ground_early text.statements) (no_event_early text.statements))
 
 at_early : (order groups heads : Option ℕ) → AreEarly (refusal_at order groups heads)
 at_early (Some line) groups heads = tt

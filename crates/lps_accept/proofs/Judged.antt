@@ -5,7 +5,7 @@ use Rattle.std.specs.Option.{option_or}
 use Rattle.lps_terms.specs.declared.refused.Refused.{Refused}
 use Rattle.lps_terms.specs.declared.refused.Refused.TheVariants.{Undeclared, DeclaredTwice, WrongArity, WrongKind, NotGround, NoEvent, OutOfOrder, MixedGroup, BadHeadTimes, Unknown, Unlevelled}
 use Rattle.lps_terms.specs.declared.text.Text.{Text}
-use Rattle.lps_model.specs.Acceptance.{early_refusal, IsAccepted, IsRefusedFor}
+use Rattle.lps_model.specs.Acceptance.{early_refusal, IsRefusedFor}
 use Rattle.lps_model.specs.Calls.{calls}
 use Rattle.lps_model.specs.Declarations.{kind_among}
 use Rattle.lps_model.specs.KindRefusals.{kind_refusal}

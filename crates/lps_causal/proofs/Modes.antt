@@ -1,5 +1,5 @@
 -- What is asked for a law of an accepted text is well-moded.
-use Rattle.std.proofs.Common.{ℕ, Bool, true, false, cond, ◌≡◌, List, [], ◌∷◌, ◌++◌, refl, sym, ap, ◌∙◌, subst, inl, inr}
+use Rattle.std.proofs.Common.{ℕ, Bool, true, false, cond, ◌≡◌, List, [], ◌∷◌, ◌++◌, refl, sym, ap, ◌∙◌, subst}
 use Rattle.std.specs.Prelude.{◌||◌, ◌&&◌, codes, slice_index_or, Contains, Option, Some, None}
 use Rattle.std.specs.Option.{option_or}
 use Rattle.lps_terms.specs.declared.atom.Atom.{Atom}
@@ -9,51 +9,22 @@ use Rattle.lps_terms.specs.declared.cond.Cond.{Cond}
 use Rattle.lps_terms.specs.declared.decl.Decl.{Decl}
 use Rattle.lps_terms.specs.declared.kind.Kind.{Kind}
 use Rattle.lps_terms.specs.declared.kind.Kind.TheVariants as k
-use Rattle.lps_terms.specs.declared.refused.Refused.{Refused}
 use Rattle.lps_terms.specs.declared.statement.Statement.{Statement}
 use Rattle.lps_terms.specs.declared.term.Term.TheVariants as t
 use Rattle.lps_terms.specs.declared.text.Text.{Text}
 use Rattle.lps_model.specs.declared.place.Place.TheVariants.{Trigger}
 use Rattle.lps_model.specs.Acceptance.{IsAccepted}
-use Rattle.lps_model.specs.Declarations.{decl_among, kind_among, kind_in}
-use Rattle.lps_model.specs.KindRefusals.{kind_refusal, may_stand}
-use Rattle.lps_model.specs.Known.{Scope, are_known, body_unknown, cond_needs, conds_unknown, declared_needs, is_known, kind_needs, learnt, refused_or, same_needs, scope_at, statements_unknown, unknown_among, unknown_of}
-use Rattle.lps_model.specs.Order.{order_refusal}
+use Rattle.lps_model.specs.Declarations.{decl_among, kind_in}
+use Rattle.lps_model.specs.KindRefusals.{may_stand}
+use Rattle.lps_model.specs.Known.{Scope, are_known, body_unknown, cond_needs, conds_unknown, declared_needs, is_known, kind_needs, learnt, same_needs, scope_at, unknown_among}
 use Rattle.lps_model.specs.Program.{Law, declarations, laws}
 use Rattle.lps_model.specs.VariableLists.{atom_vars, cond_vars, term_vars}
-use Rattle.lps_model.proofs.Elements.{first_or_later, nothing_contained}
+use Rattle.lps_model.proofs.Stated.{neither, statement_known}
 use Rattle.lps_solve.specs.Moded.{AreModed}
 use Rattle.lps_causal.specs.Asked.{asked_of, is_fluent, term_of}
 use Rattle.lps_causal.proofs.Terms.{vars_of_term}
 use Rattle.lps_causal.proofs.Fresh.{fresh}
 use Rattle.lps_causal.proofs.Placed.{event_kind, law_stated}
-
--- ---- nothing is unknown
-
-neither : (one other : Option (List ℕ)) → option_or one other ≡ None → (one ≡ None) × (other ≡ None)
-neither None other e = (refl, e)
-neither (Some name) other e = absurd (cc)
-
-neither_refused : (one other : Option Refused) → option_or one other ≡ None → (one ≡ None) × (other ≡ None)
-neither_refused None other e = (refl, e)
-neither_refused (Some refused) other e = absurd (cc)
-
-none_refused : (line : ℕ) (found : Option (List ℕ)) (later : Option Refused) → refused_or line found later ≡ None → (found ≡ None) × (later ≡ None)
-none_refused line None later e = (refl, e)
-none_refused line (Some name) later e = absurd (cc)
-
-none_in : (decls : List Decl) (statements : List Statement) (s : Statement) → statements_unknown decls statements ≡ None → Contains statements s → body_unknown decls s s.body ≡ None
-none_in decls [] s e at = absurd (nothing_contained s at)
-none_in decls (r ∷ rs) s e at =
-    let parts = none_refused r.line (body_unknown decls r r.body) (statements_unknown decls rs) e in
-    elim (first_or_later r rs s at) [
-      | inl same ↦ subst (λ (s : Statement). body_unknown decls s s.body ≡ None) same parts.0
-      | inr later ↦ none_in decls rs s parts.1 later
-    ]
-
-nothing_unknown : (text : Text) → IsAccepted text → unknown_of text ≡ None
-nothing_unknown text accepted =
-    (neither_refused (order_refusal (kind_among (declarations text)) text.statements) (unknown_of text) (neither_refused (kind_refusal text) _ accepted.not_refused).1).1
 
 -- ---- what is known
 
@@ -109,7 +80,7 @@ asked_is_moded text accepted law at m n =
     let decls : List Decl = declarations text in
     let scope : Scope = scope_at decls s [] false in
     let body : body_unknown decls s (b.Law law.initiates law.event law.fluent law.conds) ≡ None =
-    subst (λ (said : Body). body_unknown decls s said ≡ None) stated.says (none_in decls text.statements s (nothing_unknown text accepted) stated.among) in
+    subst (λ (said : Body). body_unknown decls s said ≡ None) stated.says (statement_known text accepted s stated.among) in
     let event = event_kind text accepted law at in
     let needs : declared_needs false (decl_among decls law.event.name) law.event.args ≡ [] = no_needs (decl_among decls law.event.name) event.kind event.is event.may law.event in
     record {

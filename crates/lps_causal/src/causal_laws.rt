@@ -162,7 +162,7 @@ impl CausalLaws {
         ensures later { IsLater facts.old facts.new }
     {
         program.lawful();
-        insert_all(facts, events)?;
+        facts.insert_all(events)?;
         let places = self.places_of_all(alloc, events)?;
         let initiated = self.given(alloc, program, facts, places.as_slice(), true)?;
         let terminated = self.given(alloc, program, facts, places.as_slice(), false)?;
@@ -232,17 +232,6 @@ fn note_law(
     let mut bindings = Bindings::new(alloc, law.variables + 1)?;
     let rows = answers(alloc, program, facts, law.asked.as_slice(), &mut bindings)?;
     note_rows(alloc, rows, found)
-}
-
-/// Puts each of these into the facts, or a part of them where memory runs out.
-fn insert_all(facts: &mut Facts, events: &[Atom]) -> Result<(), AllocError>
-    ensures all { OnOk result (facts.new ≡ with_facts true events.now facts.old) }
-    ensures later { IsLater facts.old facts.new }
-{
-    for event in events {
-        facts.insert(event)?;
-    }
-    Ok(())
 }
 
 /// Adds these places.

@@ -52,18 +52,9 @@ fn insert_initial(facts: &mut Facts, body: &Body) -> Result<(), AllocError>
     ensures { OnOk result (facts.new ≡ with_facts true (initial_in body.now) facts.old) }
 {
     match body {
-        Body::Initially(atoms) => insert_all(facts, atoms.as_slice()),
+        Body::Initially(atoms) => facts.insert_all(atoms.as_slice()),
         _ => Ok(()),
     }
-}
-
-fn insert_all(facts: &mut Facts, atoms: &[Atom]) -> Result<(), AllocError>
-    ensures { OnOk result (facts.new ≡ with_facts true atoms.now facts.old) }
-{
-    for atom in atoms {
-        facts.insert(atom)?;
-    }
-    Ok(())
 }
 
 /// The facts of state 0.

@@ -91,6 +91,9 @@ impl Theory {
         ensures judged { IfOk result (λ found. InState self.now (members facts.old) (λ level trace. IsJudged self.now level trace events.now found)) }
         ensures same { facts.new ≡ facts.old }
     {
+        if !self.denials.concern(events) {
+            return Ok(None);
+        }
         let effects = self.effects(alloc, facts, events)?;
         let mark = facts.mark();
         let found = self

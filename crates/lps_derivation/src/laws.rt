@@ -15,7 +15,7 @@ ghost use Rattle.lps_derivation.specs.Clauses.{Clause};
 ghost use Rattle.lps_derivation.specs.Expressions.{expr_symbols_of, put_expr};
 ghost use Rattle.lps_derivation.specs.Ground.{is_ground, is_in_range};
 ghost use Rattle.lps_derivation.specs.Instances.{put_clause};
-ghost use Rattle.lps_derivation.specs.Laws.{DerivedIsSmall, LevelsDoNotMatter, LevelsDoNotMatterInStates, OtherFactsDoNotMatter, OtherStatesDoNotMatter, TruthInStatesIsByClauses, TruthIsByClauses};
+ghost use Rattle.lps_derivation.specs.Laws.{DerivedIsSmall, LevelsDoNotMatter, OtherFactsDoNotMatter, TruthIsByClauses};
 ghost use Rattle.lps_derivation.specs.Examples.{ExampleHasLevels, OneAnswer};
 
 /// Which terms are ground, by their form, and that putting terms in leaves them as they are.
@@ -41,22 +41,19 @@ pub fn instance_law()
 /// An atom is true exactly where it is a fact, or is the head of an instance of a clause whose positive
 /// literals are true, whose negated ones are not, and whose built-ins are true.
 pub fn truth_law()
-    ensures facts { TruthIsByClauses }
-    ensures states { TruthInStatesIsByClauses }
+    ensures { TruthIsByClauses }
 {}
 
 /// What is true does not depend on the levels, as long as each call goes to no higher level and each
 /// negated call to a lower one.
 pub fn level_law()
-    ensures facts { LevelsDoNotMatter }
-    ensures states { LevelsDoNotMatterInStates }
+    ensures { LevelsDoNotMatter }
 {}
 
 /// What is true of some names does not depend on facts of other names, where the clauses of these names call
-/// these names alone. So the truth of a timeless atom is the same in all states.
+/// these names alone. So the truth of a timeless atom is the same over all facts.
 pub fn reach_law()
-    ensures facts { OtherFactsDoNotMatter }
-    ensures states { OtherStatesDoNotMatter }
+    ensures { OtherFactsDoNotMatter }
 {}
 
 /// An atom that is true and no fact has at most 1,024 symbols.

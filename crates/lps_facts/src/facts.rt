@@ -84,6 +84,14 @@ impl Facts {
         self.set(fact, true)
     }
 
+    /// Puts each of these in. Where memory runs out some of them may be in, which a mark made before takes out.
+    pub fn insert_all(&mut self, facts: &[Atom]) -> Result<(), AllocError>
+        ensures all { OnOk result (self.new ≡ with_facts true facts.now self.old) }
+        ensures later { IsLater self.old self.new }
+    {
+        self.set_all(facts, true)
+    }
+
     /// Takes the fact out. True exactly where it was there.
     pub fn remove(&mut self, fact: &Atom) -> Result<bool, AllocError>
         ensures changed { IfOk result (λ changed. changed ≡ is_among (members self.old) fact.now) }

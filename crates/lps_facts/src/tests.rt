@@ -110,6 +110,15 @@ fn atoms(alloc: Global, constants: &[&str]) -> Result<Items<Atom>, Fail> {
 }
 
 #[test]
+fn several_at_once(rt: HostRuntime) -> Result<(), Fail> {
+    let alloc = rt.alloc();
+    let mut facts = Facts::new(alloc);
+    change(alloc, &mut facts, true, "b")?;
+    facts.insert_all(atoms(alloc, &["c", "a", "b"])?.as_slice())?;
+    check(&rt, alloc, &facts, "p(a) p(b) p(c) ")
+}
+
+#[test]
 fn effects(rt: HostRuntime) -> Result<(), Fail> {
     let alloc = rt.alloc();
     let mut facts = Facts::new(alloc);

@@ -1,5 +1,5 @@
 -- Calls that are added to edges.
-use Rattle.std.proofs.Common.{◌≡◌, ◌⊎◌, ℕ, ◌+◌, ◌<◌, ◌≤◌, Bool, true, false, cond, ◌||◌, List, [], ◌∷◌, ◌++◌, All, flat_map, map, length, get_or, drop, take, Option, Some, None, not, position, refl, sym, ap, subst, ◌∙◌, arith}
+use Rattle.std.proofs.Common.{◌≡◌, ℕ, ◌+◌, ◌<◌, ◌≤◌, Bool, true, false, cond, ◌||◌, List, [], ◌∷◌, ◌++◌, flat_map, length, get_or, drop, take, Some, None, not, position, refl, sym, ap, subst, ◌∙◌}
 use Rattle.std.proofs.lemmas.List.{append-nil, append_assoc, drop_all, drop_more, map-append, take_more}
 use Rattle.std.proofs.lemmas.List.Concat.{flat_map-append}
 use Rattle.std.proofs.lemmas.List.Elements.{All-append, All-cons, All-nil}
@@ -12,7 +12,7 @@ use Rattle.lps_levels.specs.Names.{AreCalledNames}
 use Rattle.lps_levels.proofs.Numbers.{has_no_number, has_number, number_is_called}
 use Rattle.lps_model.specs.Calls.{Call, call_in_item, call_of, descends, is_called, calls_in_items, is_in_group}
 use Rattle.lps_levels.specs.declared.edge.Edge.{Edge}
-use Rattle.lps_levels.specs.Graphs.{AreAdded, AreWithin, IsWithin, call_by, calls_by, name_at}
+use Rattle.lps_levels.specs.Graphs.{AreAdded, AreWithin, IsWithin, call_by, calls_by}
 
 pub added_none : (names : List (List ℕ)) (edges : List Edge) → AreAdded names edges edges []
 added_none names edges = record { named = sym (append-nil (calls_by names edges)); within = λ h. h }

@@ -1,14 +1,14 @@
 -- Levels by number, and the first cycle.
-use Rattle.std.proofs.Common.{◌≡◌, ◌⊎◌, ℕ, ◌+◌, ◌<◌, ◌≤◌, suc, zero, Bool, true, false, cond, not, nat_le, nat_lt, ◌||◌, List, [], ◌∷◌, ◌++◌, All, length, get_or, take, drop, Contains, Option, Some, None, is_none, slice_index, refl, sym, ap, subst, ◌∙◌, arith, inl, inr}
+use Rattle.std.proofs.Common.{◌≡◌, ◌⊎◌, ℕ, ◌+◌, ◌<◌, ◌≤◌, suc, zero, Bool, true, false, cond, not, nat_lt, ◌||◌, List, [], ◌∷◌, ◌++◌, length, get_or, take, drop, Contains, Option, Some, None, is_none, slice_index, refl, sym, ap, subst, ◌∙◌, arith, inl, inr}
 use Rattle.std.proofs.lemmas.Bool.{cases_lt, leb-true, le-leb, lt-ltb}
 use Rattle.std.proofs.lemmas.List.{drop_more, get_or_append_left, get_or_push, map-append, take-append-drop, take_all, take_more}
-use Rattle.std.proofs.lemmas.List.Elements.{All-contains, Contains-append_right, Contains-get_or, Contains-push_cases}
+use Rattle.std.proofs.lemmas.List.Elements.{All-contains, Contains-get_or, Contains-push_cases}
 use Rattle.std.proofs.lemmas.List.Sums.{sum_by-cons}
 use Rattle.lps_model.specs.Calls.{Call}
 use Rattle.lps_model.specs.Levels.{HasNoWay, IsStrictCycle, IsWay}
 use Rattle.lps_levels.specs.declared.edge.Edge.{Edge}
 use Rattle.lps_levels.specs.Graphs.{IsGraph, IsWithin, call_by, calls_by, is_lower, is_no_higher, name_at}
-use Rattle.lps_levels.specs.Distances.{AreDistances, AreRight, AreUnreached, HaveNoStrictCycle, IsCycleOf, IsOnNoCycle, IsStrictCycleOf, NeverRise, distance_at, missing}
+use Rattle.lps_levels.specs.Distances.{AreDistances, AreRight, AreUnreached, HaveNoStrictCycle, IsOnNoCycle, IsStrictCycleOf, NeverRise, distance_at, missing}
 use Rattle.lps_levels.proofs.Graphs.{among_map, called_by, edge_of, no_shorter}
 use Rattle.lps_levels.proofs.LeastWays.{none_or_some}
 

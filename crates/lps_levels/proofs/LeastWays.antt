@@ -1,5 +1,5 @@
 -- The least way to a goal, call by call.
-use Rattle.std.proofs.Common.{◌≡◌, ◌⊎◌, ℕ, ◌+◌, ◌-◌, ◌<◌, ◌≤◌, suc, zero, Bool, true, false, cond, nat_eq, ◌&&◌, rules, List, [], ◌∷◌, ◌++◌, All, length, get_or, take, Contains, Option, Some, None, Ordering, refl, sym, ap, subst, ◌∙◌, arith, inl, inr}
+use Rattle.std.proofs.Common.{◌≡◌, ◌⊎◌, ℕ, ◌+◌, ◌-◌, ◌<◌, ◌≤◌, suc, Bool, true, false, cond, nat_eq, ◌&&◌, rules, List, [], ◌∷◌, ◌++◌, length, get_or, take, Contains, Option, Some, None, Ordering, refl, sym, ap, subst, ◌∙◌, arith, inl, inr}
 use Rattle.std.specs.declared.cmp.Ordering.TheVariants.{Less, Equal, Greater}
 use Rattle.std.specs.Ordering.{is_lt, ordering_reverse, ordering_then}
 use Rattle.std.specs.Cmp.Lexicographic.{slice_cmp}
@@ -13,7 +13,7 @@ use Rattle.lps_model.specs.Levels.{IsCalled, IsLeastWay, IsWay}
 use Rattle.lps_levels.specs.declared.edge.Edge.{Edge}
 use Rattle.lps_levels.specs.Graphs.{IsGraph, IsWithin, calls_by, name_at}
 use Rattle.lps_levels.specs.Distances.{AreDistances, HasNoCallee, IsLeastCallee, IsNear, better, comes_before, distance_at, is_at, is_distance}
-use Rattle.lps_levels.proofs.Graphs.{IsEdgeOf, called_by, edge_of, no_shorter}
+use Rattle.lps_levels.proofs.Graphs.{called_by, edge_of, no_shorter}
 
 some_same : (a b : ℕ) → Some a ≡ Some b → a ≡ b
 some_same a b e = cc

@@ -1,5 +1,5 @@
 -- How distances spread from a goal.
-use Rattle.std.proofs.Common.{◌≡◌, ◌⊎◌, ◌≢◌, ℕ, ◌+◌, ◌<◌, ◌≤◌, suc, zero, Bool, true, false, cond, ◌||◌, nat_eq, rules, List, [], ◌∷◌, ◌++◌, All, length, get_or, set, take, Contains, Option, Some, None, is_none, refl, sym, ap, subst, ◌∙◌, arith, inl, inr}
+use Rattle.std.proofs.Common.{◌≡◌, ◌⊎◌, ℕ, ◌+◌, ◌<◌, ◌≤◌, suc, Bool, true, false, cond, ◌||◌, rules, List, [], ◌∷◌, ◌++◌, length, get_or, set, take, Contains, Option, Some, None, is_none, refl, sym, ap, subst, ◌∙◌, arith, inl, inr}
 use Rattle.std.proofs.lemmas.Bool.{cases_eq, eqb-true}
 use Rattle.std.proofs.lemmas.List.{get_or_default, get_or-set_same, get_or-set_other, length-set, take_more, take_all}
 use Rattle.std.proofs.lemmas.List.Elements.{All-contains, Contains-push_cases}
@@ -7,7 +7,7 @@ use Rattle.std.proofs.lemmas.List.Sums.{sum_by-set}
 use Rattle.lps_levels.specs.declared.edge.Edge.{Edge}
 use Rattle.lps_model.specs.Levels.{IsCalled, IsWay}
 use Rattle.lps_levels.specs.Graphs.{IsGraph, IsWithin, calls_by, name_at}
-use Rattle.lps_levels.specs.Distances.{AreDistances, AreDistancesTo, AreReached, IsExtended, IsNear, distance_at, is_at, is_distance, missing}
+use Rattle.lps_levels.specs.Distances.{AreDistances, AreDistancesTo, AreReached, IsExtended, IsNear, distance_at, is_distance, missing}
 use Rattle.lps_levels.proofs.Graphs.{called_by}
 
 abbrev weight_of : Option ℕ → ℕ

@@ -1,5 +1,5 @@
 -- The table of levels of a text.
-use Rattle.std.proofs.Common.{◌≡◌, ◌⊎◌, ℕ, ◌+◌, ◌<◌, ◌≤◌, suc, zero, Bool, true, false, cond, not, nat_lt, ◌||◌, List, [], ◌∷◌, ◌++◌, All, length, get_or, take, Contains, Option, Some, None, Result, Ok, Err, is_some, slice_index, refl, sym, ap, subst, ◌∙◌, arith, inl, inr}
+use Rattle.std.proofs.Common.{◌≡◌, ◌⊎◌, ℕ, ◌+◌, ◌<◌, ◌≤◌, Bool, true, false, cond, not, ◌||◌, List, [], length, take, Contains, Some, Result, Ok, Err, is_some, slice_index, refl, sym, ap, subst, ◌∙◌, arith, inl, inr}
 use Rattle.std.specs.List.{list_any}
 use Rattle.std.specs.Map.{lookup}
 use Rattle.std.specs.Result.{MatchResult}
@@ -15,7 +15,6 @@ use Rattle.lps_model.specs.Levels.{AreLevelsOf, IsLevel, level_among, level_or_n
 use Rattle.lps_model.specs.Program.{declarations}
 use Rattle.lps_levels.specs.declared.edge.Edge.{Edge}
 use Rattle.lps_levels.specs.declared.error.LevelsError.{LevelsError}
-use Rattle.lps_levels.specs.declared.error.LevelsError.TheVariants.{NoMemory}
 use Rattle.lps_levels.specs.Answers.{AreInTable, AreInTableTo, IsNoMemory, IsRightError}
 use Rattle.lps_levels.specs.Distances.{AreRight}
 use Rattle.lps_levels.specs.Graphs.{AreApart, IsGraph, IsWithin, call_by, calls_by, is_lower, is_no_higher, name_at}

@@ -1,5 +1,5 @@
 -- Ways by calls: along them levels never rise, and there is one least way and one cycle.
-use Rattle.std.proofs.Common.{◌≡◌, ◌⊎◌, ℕ, ◌+◌, ◌<◌, ◌≤◌, suc, zero, List, [], ◌∷◌, ◌++◌, length, Contains, Ordering, refl, sym, ap, subst, ◌∙◌, arith, inl, inr}
+use Rattle.std.proofs.Common.{◌≡◌, ◌⊎◌, ℕ, ◌<◌, ◌≤◌, suc, zero, List, [], ◌∷◌, ◌++◌, length, Contains, Ordering, refl, sym, ap, subst, ◌∙◌, arith, inl, inr}
 use Rattle.std.specs.List.{slice_index_or}
 use Rattle.std.specs.declared.cmp.Ordering.TheVariants.{Less, Equal, Greater}
 use Rattle.std.specs.Ordering.{ordering_reverse}
@@ -10,7 +10,7 @@ use Rattle.std.proofs.lemmas.List.Elements.{Contains-append_right}
 use Rattle.lps_terms.specs.Names.{name_cmp}
 use Rattle.lps_terms.specs.OrderLaws.{name_cmp_total, name_cmp-IsAntisymmetric}
 use Rattle.lps_model.specs.Calls.{Call}
-use Rattle.lps_model.specs.Levels.{AreLevels, IsLeastWay, IsStrictCycle, IsWay}
+use Rattle.lps_model.specs.Levels.{AreLevels, IsLeastWay, IsWay}
 use Rattle.lps_levels.specs.Laws.{CyclesAreUnique, LevelsExcludeCycles}
 
 -- ---- elements

@@ -1,9 +1,8 @@
 -- How far it is from each name to a goal, and the least way.
-use Rattle.std.specs.Prelude.{◌≡◌, ℕ, suc, ◌+◌, ◌<◌, ◌≤◌, Bool, true, false, nat_eq, ◌&&◌, if◌then◌else◌, List, [], ◌∷◌, All, Contains, length, Option, Some, None, is_none, count_by, slice_index, slice_index_or, slice_set}
+use Rattle.std.specs.Prelude.{◌≡◌, ℕ, suc, ◌<◌, ◌≤◌, Bool, true, false, nat_eq, ◌&&◌, if◌then◌else◌, List, ◌∷◌, All, Contains, length, Option, Some, None, is_none, count_by, slice_index, slice_index_or, slice_set}
 use Rattle.std.specs.declared.cmp.Ordering.TheVariants.{Greater}
 use Rattle.std.specs.Ordering.{is_lt}
 use Rattle.lps_terms.specs.Names.{name_cmp}
-use Rattle.lps_model.specs.Calls.{Call}
 use Rattle.lps_model.specs.Levels.{HasNoWay, IsLeastWay, IsStrictCycle, IsWay}
 use Rattle.lps_levels.specs.declared.edge.Edge.{Edge}
 use Rattle.lps_levels.specs.declared.judge.Answer.{Answer}

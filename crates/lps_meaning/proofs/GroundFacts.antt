@@ -20,7 +20,7 @@ use Rattle.lps_model.specs.Program.{Law, initial_atoms, initial_in, law_in, laws
 use Rattle.lps_model.specs.Run.{AreInitial}
 use Rattle.lps_model.specs.Variables.{has_variable, have_variables, hold_variables, variable_in_app, variable_in_var}
 use Rattle.lps_model.proofs.Elements.{first_or_later, nothing_contained}
-use Rattle.lps_meaning.proofs.Stated.{flat_within, statement_ground}
+use Rattle.lps_model.proofs.Stated.{flat_within, statement_ground}
 use Rattle.lps_derivation.specs.Ground.{is_ground, is_ground-App, is_ground-Int, is_ground-Sym}
 use Rattle.lps_meaning.specs.Holds.{CausedIn, Holds, HoldsUpTo, Persists}
 use Rattle.lps_meaning.specs.Reports.{IsGroundAtom}

@@ -2,7 +2,6 @@ pub mod Persistence
 pub mod Walks
 pub mod Splits
 pub mod Statuses
-pub mod Stated
 pub mod Framing
 pub mod Prevented
 pub mod Freshness

@@ -21,7 +21,7 @@ use Rattle.lps_model.specs.Acceptance.{IsAccepted}
 use Rattle.lps_model.specs.KindRefusals.{has_no_event, has_span}
 use Rattle.lps_model.specs.Trace.{admitted, happens_in, then_cycle}
 use Rattle.lps_model.proofs.Elements.{nothing_contained}
-use Rattle.lps_meaning.proofs.Stated.{flat_within, not_not, only_one, statement_has_event}
+use Rattle.lps_model.proofs.Stated.{flat_within, not_not, only_one, statement_has_event}
 use Rattle.lps_meaning.specs.declared.goal.GoalKey.{GoalKey}
 use Rattle.lps_meaning.specs.Cycles.{AreJudged, ArePicks, AreLegal, IsLegal}
 use Rattle.lps_meaning.specs.Denials.{IsMetBy, ViolatesNone}

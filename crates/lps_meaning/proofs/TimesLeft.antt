@@ -26,7 +26,7 @@ use Rattle.lps_model.specs.Order.{occurs, order_refusal}
 use Rattle.lps_model.specs.Program.{declarations}
 use Rattle.lps_model.specs.VariableLists.{step_times, item_vars, atom_vars}
 use Rattle.lps_model.proofs.Elements.{first_is_contained}
-use Rattle.lps_meaning.proofs.Stated.{neither}
+use Rattle.lps_model.proofs.Stated.{neither}
 use Rattle.lps_meaning.specs.declared.node.Left.{Left}
 use Rattle.lps_meaning.specs.declared.node.LeftCon.{LeftCon}
 use Rattle.lps_meaning.specs.declared.when.When.{When}

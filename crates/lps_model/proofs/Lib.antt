@@ -1,5 +1,4 @@
 pub mod Elements
-pub mod Persistence
 pub mod Growth
-pub mod Uniqueness
+pub mod Stated
 pub mod Tables

@@ -1,5 +1,6 @@
 -- The refusals of a text that are about names, kinds, the facts of the start and the events of denials.
 use Rattle.std.specs.Prelude.{ℕ, Bool, true, false, not, nat_eq, List, [], ◌∷◌, Option, Some, None, if◌then◌else◌}
+use Rattle.std.specs.Option.{option_or}
 use Rattle.std.specs.Str.{bytes_eq}
 use Rattle.lps_terms.specs.declared.body.Body.{Body}
 use Rattle.lps_terms.specs.declared.body.Body.TheVariants as b
@@ -124,19 +125,14 @@ abbrev pub no_event : List Statement → Option Refused
 no_event [] = None
 no_event (s ∷ ss) = if has_no_event s.body then Some (NoEvent s.line) else no_event ss
 
--- the first refusal that there is
-abbrev pub or_else : Option Refused → Option Refused → Option Refused
-or_else None later = later
-or_else (Some refused) later = Some refused
-
 -- the refusals of the occurrences of names, of which the least number counts, around that of the declarations
 abbrev pub name_refusal : Text → List Decl → List Occurrence → Option Refused
-name_refusal text decls os = or_else (undeclared decls os) (or_else (declared_twice text) (or_else (wrong_arity decls os) (wrong_kind decls os)))
+name_refusal text decls os = option_or (undeclared decls os) (option_or (declared_twice text) (option_or (wrong_arity decls os) (wrong_kind decls os)))
 
 -- the refusals of whole statements, of which the least number counts
 abbrev pub statement_refusal : List Statement → Option Refused
-statement_refusal statements = or_else (not_ground statements) (no_event statements)
+statement_refusal statements = option_or (not_ground statements) (no_event statements)
 
 -- the refusal with the least number that stands anywhere, at the first statement where it stands
 abbrev pub kind_refusal : Text → Option Refused
-kind_refusal text = or_else (name_refusal text (declarations text) (occurrences (declarations text) text)) (statement_refusal text.statements)
+kind_refusal text = option_or (name_refusal text (declarations text) (occurrences (declarations text) text)) (statement_refusal text.statements)

@@ -13,7 +13,5 @@ pub mod Acceptance
 pub mod Formed
 pub mod Accepted
 pub mod Trace
-pub mod Holds
 pub mod Report
 pub mod Run
-pub mod Laws

@@ -1,9 +1,7 @@
-//! What a text means: which fluents hold when in a trace, which traces are runs, and what is reported of them.
+//! What a text says, when it is accepted, and what happens when in a trace: definitions, and the types that go with them.
 //!
-//! It stands on the data of texts alone, and never knows of states, trails or positions in a file: each
-//! definition speaks of a whole trace. It carries the law of states, and the laws that states, runs and
-//! reports are unique, each as the contract of a function over the definitions alone (`state_law`,
-//! `unique_law`, `growth_law`).
+//! It stands on the data of texts alone, and knows nothing of what holds, of derivations or of runs. Its calls find the first
+//! declaration of a name (`Kinds`), and lend an accepted text with its declarations and levels (`Accepted`).
 #![tactic(auto)]
 
 mod accepted;
@@ -12,7 +10,6 @@ mod copy;
 mod cycle;
 mod declaration;
 mod kinds;
-mod laws;
 mod levels;
 mod occurrence;
 mod place;
@@ -25,7 +22,6 @@ pub use batch::Batch;
 pub use cycle::{Cycle, Group, Pick};
 pub use declaration::Declaration;
 pub use kinds::Kinds;
-pub use laws::{growth_law, state_law, unique_law};
 pub use levels::Levels;
 pub use occurrence::Occurrence;
 pub use place::Place;

@@ -3,7 +3,7 @@ use Rattle.std.specs.Prelude.{ℕ, Bool, true, false, List, [], ◌∷◌, ◌++
 use Rattle.std.proofs.Common.{◌∙◌, ap, sym}
 use Rattle.std.proofs.lemmas.Bool.{eqb-true}
 use Rattle.std.proofs.lemmas.List.Folds.{list_any-append}
-use Rattle.lps_model.specs.Known.{are_known, is_known, learnt, unknown_among, with_var, written}
+use Rattle.lps_model.specs.Known.{are_known, is_known, unknown_among, with_var, written}
 use Rattle.lps_modes.specs.Laws.{LearningIsUnion, NoneIsUnknown}
 
 or_false : (a : Bool) → a ≡ (a || false)

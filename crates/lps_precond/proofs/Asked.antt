@@ -53,7 +53,7 @@ cut_of (items ∷ xs) denial at =
     ]
 
 -- the name is that of one of the events
-named_among : (events : List Atom) (a : Atom) (name : List ℕ) → Contains events a → a.name ≡ name → list_any (λ (event : Atom). name_eq event.name name) events ≡ true
+pub named_among : (events : List Atom) (a : Atom) (name : List ℕ) → Contains events a → a.name ≡ name → list_any (λ (event : Atom). name_eq event.name name) events ≡ true
 named_among [] a name at is = absurd (nothing_contained a at)
 named_among (event ∷ events) a name at is =
     elim (first_or_later event events a at) [

@@ -6,4 +6,5 @@ pub mod Alike
 pub mod Modes
 pub mod Rows
 pub mod Asked
+pub mod Silent
 pub mod Judging

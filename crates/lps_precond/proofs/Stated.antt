@@ -1,9 +1,7 @@
 -- What holds of the denials of an accepted text: their times, their kinds and their variables.
 use Rattle.std.proofs.Common.{ℕ, Bool, true, false, not, ◌≡◌, List, [], ◌∷◌, length, refl, sym, ap, subst, ◌∙◌, inl, inr}
 use Rattle.std.specs.Prelude.{◌&&◌, ◌==◌, Contains, Option, Some, None, nat_le, if◌then◌else◌}
-use Rattle.std.specs.List.{AllByRecursion, flat_map, list_all}
-use Rattle.std.specs.Option.{option_or}
-use Rattle.std.proofs.lemmas.List.Elements.{Contains-append_left, Contains-append_right}
+use Rattle.std.specs.List.{AllByRecursion, list_all}
 use Rattle.lps_terms.specs.declared.body.Body.{Body}
 use Rattle.lps_terms.specs.declared.body.Body.TheVariants as b
 use Rattle.lps_terms.specs.declared.decl.Decl.{Decl}
@@ -11,7 +9,6 @@ use Rattle.lps_terms.specs.declared.item.Item.{Item}
 use Rattle.lps_terms.specs.declared.item.Item.TheVariants as i
 use Rattle.lps_terms.specs.declared.kind.Kind.{Kind}
 use Rattle.lps_terms.specs.declared.kind.Kind.TheVariants as k
-use Rattle.lps_terms.specs.declared.refused.Refused.{Refused}
 use Rattle.lps_terms.specs.declared.statement.Statement.{Statement}
 use Rattle.lps_terms.specs.declared.text.Text.{Text}
 use Rattle.lps_model.specs.declared.occurrence.Occurrence.{Occurrence}
@@ -19,30 +16,18 @@ use Rattle.lps_model.specs.declared.place.Place.TheVariants.{AtTime, Seen, Untim
 use Rattle.lps_model.specs.Acceptance.{IsAccepted}
 use Rattle.lps_model.specs.Declarations.{kind_among}
 use Rattle.lps_model.specs.Formed.{is_formed, is_formed_body, is_formed_item, is_formed_statement, is_no_constraint}
-use Rattle.lps_model.specs.KindRefusals.{has_no_event, has_span, kind_refusal, may_stand, name_refusal, no_event, not_ground, or_else, statement_refusal}
-use Rattle.lps_model.specs.Known.{body_unknown, sequence_unknown, statements_unknown, unknown_of, refused_or}
-use Rattle.lps_model.specs.Occurrences.{in_item, in_items, occurrences}
-use Rattle.lps_model.specs.Order.{first_line, happens, is_denial_ordered, is_out_of_order, may_all_stand, order_refusal, refusal_at, span_in}
+use Rattle.lps_model.specs.KindRefusals.{has_no_event, has_span, may_stand}
+use Rattle.lps_model.specs.Known.{body_unknown, sequence_unknown}
+use Rattle.lps_model.specs.Occurrences.{in_item, in_items}
+use Rattle.lps_model.specs.Order.{first_line, happens, is_denial_ordered, is_out_of_order, may_all_stand, refusal_at, span_in}
 use Rattle.lps_model.specs.Program.{declarations}
 use Rattle.lps_model.proofs.Elements.{first_is_contained, first_or_later, later_is_contained, nothing_contained}
+use Rattle.lps_model.proofs.Stated.{HasKindAt, IsStated, flat_contains, flat_within, kind_at, no_order_refused, not_not, only_one, statement_has_event, statement_known}
 use Rattle.lps_meaning.specs.Rules.{denial_in, denials, kind_of}
 use Rattle.lps_causal.proofs.Happening.{is_condition, is_timeless}
-use Rattle.lps_causal.proofs.Placed.{HasKindAt, IsStated, flat_within, kind_at, kinds_stand}
 use Rattle.lps_solve.proofs.Grounds.{first_of_two, second_of}
 
 -- ---- the statement of a denial
-
--- an element of what a function gives for one of some elements
-flat_is_among : {X Y : Type 0} (f : X → List Y) (xs : List X) (x : X) (y : Y) → Contains xs x → Contains (f x) y → Contains (flat_map f xs) y
-flat_is_among f [] x y at within = absurd (nothing_contained x at)
-flat_is_among f (z ∷ zs) x y at within =
-    elim (first_or_later z zs x at) [
-      | inl same ↦ Contains-append_left (f z) (flat_map f zs) y (subst (λ w. Contains (f w) y) (sym same) within)
-      | inr later ↦ Contains-append_right (f z) (flat_map f zs) y (flat_is_among f zs x y later within)
-    ]
-
-only_one : {X : Type 0} (x y : X) → Contains (x ∷ []) y → x ≡ y
-only_one x y at = elim (first_or_later x [] y at) [ inl same ↦ same | inr none ↦ absurd (nothing_contained y none) ]
 
 denial_of_body : (body : Body) (items : List Item) → Contains (denial_in body) items → body ≡ b.Denial items
 denial_of_body (b.Denial own) items within = ap (λ is. b.Denial is) (only_one own items within)
@@ -60,25 +45,9 @@ denial_stated text items at =
 
 -- ---- what was not refused
 
-none_first : (one other : Option Refused) → option_or one other ≡ None → one ≡ None
-none_first None other e = refl
-none_first (Some refused) other e = absurd (cc)
-
-none_later : (one other : Option Refused) → option_or one other ≡ None → other ≡ None
-none_later None other e = e
-none_later (Some refused) other e = absurd (cc)
-
-none_after : (one other : Option Refused) → or_else one other ≡ None → other ≡ None
-none_after None other e = e
-none_after (Some refused) other e = absurd (cc)
-
 no_line : (one two three : Option ℕ) → refusal_at one two three ≡ None → one ≡ None
 no_line None two three e = refl
 no_line (Some line) two three e = absurd (cc)
-
-not_not : (b : Bool) → not b ≡ false → b ≡ true
-not_not true e = refl
-not_not false e = absurd (cc)
 
 -- a test that no body passes
 none_passes_by : (test : Body → Bool) (s : Statement) (ss : List Statement) (passes : Bool) → test s.body ≡ passes → (if passes then Some s.line else first_line test ss) ≡ None →
@@ -93,32 +62,6 @@ none_passes test (x ∷ ss) s e at =
     elim (first_or_later x ss s at) [
       | inl same ↦ subst (λ (z : Statement). test z.body ≡ false) same both.0
       | inr later ↦ none_passes test ss s both.1 later
-    ]
-
-no_event_by : (s : Statement) (ss : List Statement) (passes : Bool) → has_no_event s.body ≡ passes → no_event (s ∷ ss) ≡ None → (has_no_event s.body ≡ false) × (no_event ss ≡ None)
-no_event_by s ss true is e = let none = rw is at e in absurd (cc)
-no_event_by s ss false is e = let rest = rw is at e in (is, rest)
-
-each_has_event : (ss : List Statement) (s : Statement) → no_event ss ≡ None → Contains ss s → has_no_event s.body ≡ false
-each_has_event [] s e at = absurd (nothing_contained s at)
-each_has_event (x ∷ ss) s e at =
-    let both = no_event_by x ss (has_no_event x.body) refl e in
-    elim (first_or_later x ss s at) [
-      | inl same ↦ subst (λ (z : Statement). has_no_event z.body ≡ false) same both.0
-      | inr later ↦ each_has_event ss s both.1 later
-    ]
-
-known_by : (line : ℕ) (one : Option (List ℕ)) (later : Option Refused) → refused_or line one later ≡ None → (one ≡ None) × (later ≡ None)
-known_by line None later e = (refl, e)
-known_by line (Some name) later e = absurd (cc)
-
-each_known : (decls : List Decl) (ss : List Statement) (s : Statement) → statements_unknown decls ss ≡ None → Contains ss s → body_unknown decls s s.body ≡ None
-each_known decls [] s e at = absurd (nothing_contained s at)
-each_known decls (x ∷ ss) s e at =
-    let both = known_by x.line (body_unknown decls x x.body) (statements_unknown decls ss) e in
-    elim (first_or_later x ss s at) [
-      | inl same ↦ subst (λ (z : Statement). body_unknown decls z z.body ≡ None) same both.0
-      | inr later ↦ each_known decls ss s both.1 later
     ]
 
 all_hold : {X : Type 0} (test : X → Bool) (xs : List X) (x : X) → list_all test xs ≡ true → Contains xs x → test x ≡ true
@@ -177,14 +120,14 @@ module _ (text : Text) (accepted : IsAccepted text) (items : List Item) (stated 
   kinds_of_all : (some : List Item) → ((o : Occurrence) → Contains (in_items line Seen some) o → HasKindAt text o.place o.name) → AllByRecursion (HasKinds text) some
   kinds_of_all [] each = tt
   kinds_of_all (item ∷ rest) each = (
-    kinds_of_item item (λ o at. each o (flat_is_among (in_item line Seen) (item ∷ rest) item o (first_is_contained item rest) at)),
+    kinds_of_item item (λ o at. each o (flat_contains (in_item line Seen) (item ∷ rest) item o (first_is_contained item rest) at)),
     kinds_of_all rest (λ o at. each o (later_among o at)),
   )
     where
       later_among : (o : Occurrence) → Contains (in_items line Seen rest) o → Contains (in_items line Seen (item ∷ rest)) o
       later_among o at =
           let found = flat_within (in_item line Seen) rest o at in
-          flat_is_among (in_item line Seen) (item ∷ rest) found.one o (later_is_contained item rest found.one found.among) found.within
+          flat_contains (in_item line Seen) (item ∷ rest) found.one o (later_is_contained item rest found.one found.among) found.within
 
 -- ---- denials
 
@@ -220,18 +163,12 @@ pub denial_is : (text : Text) → IsAccepted text → is_formed text ≡ true �
 denial_is text accepted formed items at =
     let stated = denial_stated text items at in
     let s : Statement = stated.statement in
-    let kinds : kind_refusal text ≡ None = kinds_stand text accepted in
-    let later : option_or (order_refusal (kind_among (declarations text)) text.statements) (unknown_of text) ≡ None = none_later (kind_refusal text) _ accepted.not_refused in
-    let in_order : order_refusal (kind_among (declarations text)) text.statements ≡ None = none_first _ (unknown_of text) later in
-    let no_unknown : unknown_of text ≡ None = none_later (order_refusal (kind_among (declarations text)) text.statements) (unknown_of text) later in
-    let statements_stand : statement_refusal text.statements ≡ None = none_after (name_refusal text (declarations text) (occurrences (declarations text) text)) _ kinds in
-    let events : no_event text.statements ≡ None = none_after (not_ground text.statements) _ statements_stand in
-    let spans : has_span items ≡ true = not_not (has_span items) (sym (ap has_no_event stated.says) ∙ each_has_event text.statements s events stated.among) in
+    let spans : has_span items ≡ true = not_not (has_span items) (sym (ap has_no_event stated.says) ∙ statement_has_event text accepted s stated.among) in
     let times = has_times items spans in
     let ordered : is_denial_ordered items ≡ true =
     not_not (is_denial_ordered items)
     (sym (ap (is_out_of_order (kind_among (declarations text))) stated.says)
-    ∙ none_passes (is_out_of_order (kind_among (declarations text))) text.statements s (no_line (first_line (is_out_of_order (kind_among (declarations text))) text.statements) _ _ in_order) stated.among) in
+    ∙ none_passes (is_out_of_order (kind_among (declarations text))) text.statements s (no_line (first_line (is_out_of_order (kind_among (declarations text))) text.statements) _ _ (no_order_refused text accepted)) stated.among) in
     let between : (not (times.first == times.second) && may_all_stand times.first times.second false items) ≡ true = rw times.span at ordered in
     let whole : is_formed_statement s ≡ true = all_hold is_formed_statement text.statements s formed stated.among in
     let body : is_formed_body (length s.names) (length s.times) (b.Denial items) ≡ true =
@@ -245,7 +182,7 @@ denial_is text accepted formed items at =
       differ = is_not (times.first == times.second) (first_of_two (not (times.first == times.second)) (may_all_stand times.first times.second false items) between);
       stand = second_of (not (times.first == times.second)) (may_all_stand times.first times.second false items) between;
       kinds = kinds_of_all text accepted items stated items (λ o within. kind_at text accepted (b.Denial items) stated o within);
-      known = sym (ap (body_unknown (declarations text) s) stated.says) ∙ each_known (declarations text) text.statements s no_unknown stated.among;
+      known = sym (ap (body_unknown (declarations text) s) stated.says) ∙ statement_known text accepted s stated.among;
       formed = first_of_two (list_all (is_formed_item (length s.names) (length s.times)) items) (list_all is_no_constraint items) body;
       plain = second_of (list_all (is_formed_item (length s.names) (length s.times)) items) (list_all is_no_constraint items) body;
     }

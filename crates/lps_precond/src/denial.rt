@@ -14,10 +14,9 @@ ghost use Rattle.lps_solve.specs.Met.{AreGround};
 ghost use Rattle.lps_precond.specs.Cut.{cut, cuts};
 ghost use Rattle.lps_precond.specs.Rows.{AreRows, IsRow, LeaveSome, MeetsBack, all_happen, vars_of};
 
-use crate::bind::unify_row;
 use crate::cutting::{conditions, early_items, names_of, second_time};
 use lps_facts::Facts;
-use lps_solve::{Program, above_conds, answers, note_cond};
+use lps_solve::{Program, above_conds, answers, note_cond, unify_all};
 use lps_terms::{Args, Atom, Cond, Item, Name, Term, Values};
 use lps_unify::Bindings;
 use sqlite_items::Items;
@@ -90,11 +89,18 @@ impl Denial {
         ensures { IfOk result (λ rows. AreRows program.now (members facts.now) self.now (map (λ v. v.0) rows.items)) }
     {
         program.lawful();
-        if !do_all_happen(self.names.as_slice(), events) {
+        if !self.may_be_met(events) {
             return Ok(Vec::new(alloc));
         }
         let mut bindings = Bindings::new(alloc, self.variables)?;
         answers(alloc, program, facts, self.front.as_slice(), &mut bindings)
+    }
+
+    /// Whether the name of each thing that is to happen is that of one of the events.
+    pub(crate) fn may_be_met(&self, events: &[Atom]) -> bool
+        ensures { result ≡ all_happen self.now.names events.now }
+    {
+        do_all_happen(self.names.as_slice(), events)
     }
 
     /// Whether one of the rows leaves conditions from the cut on that are met. An error comes where memory runs out.
@@ -133,7 +139,7 @@ impl Denial {
     {
         program.lawful();
         let mut bindings = Bindings::new(alloc, self.variables)?;
-        if !unify_row(&mut bindings, self.shared.as_slice(), row)? {
+        if !unify_all(&mut bindings, self.shared.as_slice(), row)? {
             return Ok(false);
         }
         bindings.lawful();

@@ -1,10 +1,13 @@
-ghost use Rattle.std.specs.Prelude.{◌≡◌, ℕ, true, List, length, IfOk, IsTrue, OnOk, Contains};
+ghost use Rattle.std.specs.Prelude.{◌≡◌, ℕ, true, false, List, length, IfOk, IsTrue, OnOk, Contains};
+ghost use Rattle.std.specs.List.{list_any};
 ghost use Rattle.lps_terms.specs.declared.atom.Atom.{Atom as Fact};
+ghost use Rattle.lps_terms.specs.declared.text.Text.{Text};
 ghost use Rattle.lps_model.specs.declared.trace.Trace.{Trace};
 ghost use Rattle.lps_model.specs.Order.{happens};
 ghost use Rattle.lps_derivation.specs.Clauses.{clauses};
 ghost use Rattle.lps_derivation.specs.Levels.{AreLevels};
 ghost use Rattle.lps_facts.specs.Facts.{IsLater, members, with_effects, with_facts};
+ghost use Rattle.lps_meaning.specs.Denials.{ViolatesNone};
 ghost use Rattle.lps_meaning.specs.Reports.{IsState};
 ghost use Rattle.lps_meaning.specs.Rules.{kind_of};
 ghost use Rattle.lps_solve.specs.Met.{AreGround};
@@ -12,7 +15,7 @@ ghost use Rattle.lps_causal.specs.Effects.{AreEffects};
 ghost use Rattle.lps_causal.specs.Names.{AreEvents, AreFluents};
 ghost use Rattle.lps_precond.specs.Cut.{cuts};
 ghost use Rattle.lps_precond.specs.Judged.{IsJudged, IsLeast, left_by};
-ghost use Rattle.lps_precond.specs.Rows.{AreAllFit, AreRowsOfAll, rows_in};
+ghost use Rattle.lps_precond.specs.Rows.{AreAllFit, AreRowsOfAll, all_happen, rows_in};
 
 use crate::denial::Denial;
 use lps_facts::Facts;
@@ -60,6 +63,14 @@ impl Denials {
             return Err(AllocError);
         }
         Ok(Denials { denials })
+    }
+
+    /// Whether there is a denial each of whose events has the name of one of these. Where there is none, these violate nothing in
+    /// any state, and need not be tried.
+    pub fn concern(&self, events: &[Atom]) -> bool
+        ensures { (text : Text) → self.now ≡ cuts text → result ≡ false → (level : List ℕ → ℕ) (trace : Trace) → ViolatesNone text level trace events.now }
+    {
+        any_may_be_met(self.denials.as_slice(), events)
     }
 
     /// The least number of a denial that the events violate, with the facts as before; or none where they violate none, with
@@ -154,7 +165,7 @@ impl Denials {
         ensures rows { IfOk result (λ rows. AreRowsOfAll program.now (members (with_facts true events.now facts.old)) self.now (rows_in rows.items)) }
         ensures later { IsLater facts.old facts.new }
     {
-        insert_all(facts, events)?;
+        facts.insert_all(events)?;
         self.rows_of_all(alloc, program, facts, events)
     }
 
@@ -200,13 +211,9 @@ impl Denials {
     }
 }
 
-/// Puts in each of these, or a part of them where memory runs out.
-fn insert_all(facts: &mut Facts, events: &[Atom]) -> Result<(), AllocError>
-    ensures all { OnOk result (facts.new ≡ with_facts true events.now facts.old) }
-    ensures later { IsLater facts.old facts.new }
+/// Whether one of the denials has all its events among these by their names.
+fn any_may_be_met(denials: &[Denial], events: &[Atom]) -> bool
+    ensures { result ≡ list_any (λ denial. all_happen denial.names events.now) denials.now }
 {
-    for event in events {
-        facts.insert(event)?;
-    }
-    Ok(())
+    denials.iter().any(|denial| denial.may_be_met(events))
 }

@@ -18,7 +18,6 @@
 //! | `Judged` | what is answered, and which facts are left |
 #![tactic(auto)]
 
-mod bind;
 mod cutting;
 mod denial;
 mod denials;

@@ -247,3 +247,19 @@ fn the_least_number(rt: HostRuntime) -> Result<(), Fail> {
     check(&rt, alloc, THREE, "e", Some(2), "")?;
     check(&rt, alloc, THREE, "e, f", Some(1), "")
 }
+
+const PAIR: &str = "event e/0, f/0, g/0.
+false e from T1 to T2, f from T1 to T2.
+";
+
+#[test]
+fn denials_that_concern(rt: HostRuntime) -> Result<(), Fail> {
+    let alloc = rt.alloc();
+    let program = program_of(alloc, PAIR)?;
+    let denials = Denials::new(alloc, program.text().text())?;
+    for (events, expected) in [("e", false), ("g, f", false), ("g, f, e", true)] {
+        let events = atoms_of(alloc, events)?;
+        assert_eq!(rt; denials.concern(events.as_slice()), expected);
+    }
+    Ok(())
+}

@@ -14,12 +14,13 @@ use Rattle.lps_model.specs.Declarations.{arity_among, kind_among}
 use Rattle.lps_model.specs.Program.{declarations}
 use Rattle.lps_terms.specs.Names.{is_proper_name}
 use Rattle.lps_model.specs.Run.{IsExternal}
+use Rattle.lps_model.proofs.Stated.{neither}
 use Rattle.lps_derivation.specs.Ground.{is_ground}
 use Rattle.lps_cycle.specs.Admission.{MayCome}
 use Rattle.lps_batches.specs.Lines.{IsPassed}
 use Rattle.lps_batches.specs.Stream.{Skipped}
 use Rattle.lps_batches.specs.Stream as stream
-use Rattle.lps_run.specs.Judged.{ArePassed, AreWhole, IsBatchOf, batch_fault, event_fault, events_fault, fault_by, fault_of_kind, number_fault, or_else}
+use Rattle.lps_run.specs.Judged.{ArePassed, AreWhole, IsBatchOf, batch_fault, event_fault, events_fault, fault_by, fault_of_kind, number_fault}
 use Rattle.lps_run.specs.Judged as judged
 
 -- ---- lines
@@ -71,10 +72,6 @@ fitting (Some kind) (Some arity) count e = by_test (eqb arity count) refl e wher
   by_test : (test : Bool) → eqb arity count ≡ test → (if test then fault_of_kind kind else Some WrongArity) ≡ None → (Some kind ≡ Some k.Event) × (Some arity ≡ Some count)
   by_test true same e = ((λ i. Some (event_kind kind e i)), (λ i. Some (eqb-true arity count same i)))
   by_test false other e = absurd cc
-
-neither : (a b : Option BatchKind) → or_else a b ≡ None → (a ≡ None) × (b ≡ None)
-neither None b e = (refl, e)
-neither (Some fault) b e = absurd cc
 
 external : (text : Text) (events : List Atom) → events_fault text events ≡ None → AllByRecursion (IsExternal text) events
 external text [] e = tt

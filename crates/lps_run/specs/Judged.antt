@@ -1,5 +1,6 @@
 -- How a stream is judged for a text: the batches of its lines, up to its end or the first line that is faulty.
 use Rattle.std.specs.Prelude.{◌≡◌, ℕ, suc, ◌⊎◌, ◌==◌, List, [], ◌∷◌, ◌++◌, length, Option, Some, None, if◌then◌else◌}
+use Rattle.std.specs.Option.{option_or}
 use Rattle.lps_terms.specs.declared.atom.Atom.{Atom}
 use Rattle.lps_terms.specs.declared.kind.Kind.{Kind}
 use Rattle.lps_terms.specs.declared.kind.Kind.TheVariants as k
@@ -28,15 +29,10 @@ fault_by (Some kind) (Some arity) count = if arity == count then fault_of_kind k
 abbrev pub event_fault : Text → Atom → Option BatchKind
 event_fault text event = fault_by (kind_among (declarations text) event.name) (arity_among (declarations text) event.name) (length event.args)
 
--- the first fault that is there
-abbrev pub or_else : Option BatchKind → Option BatchKind → Option BatchKind
-or_else None other = other
-or_else (Some fault) other = Some fault
-
 -- the fault of the first event that has one
 abbrev pub events_fault : Text → List Atom → Option BatchKind
 events_fault text [] = None
-events_fault text (event ∷ events) = or_else (event_fault text event) (events_fault text events)
+events_fault text (event ∷ events) = option_or (event_fault text event) (events_fault text events)
 
 -- another number than that of the next cycle
 abbrev pub number_fault : ℕ → ℕ → Option BatchKind
@@ -44,7 +40,7 @@ number_fault expected got = if got == expected then None else Some (Gap expected
 
 -- the fault of a batch where this cycle is next
 abbrev pub batch_fault : Text → ℕ → Batch → Option BatchKind
-batch_fault text expected batch = or_else (events_fault text batch.events) (number_fault expected batch.number)
+batch_fault text expected batch = option_or (events_fault text batch.events) (number_fault expected batch.number)
 
 -- ---- one line
 

@@ -1,7 +1,7 @@
 -- Terms without variables, and what is put in for the variables of terms.
-use Rattle.std.proofs.Common.{ℕ, ℤ, true, false, ◌≡◌, List, [], ◌∷◌, ◌++◌, map, refl, sym, ap, ◌∙◌, subst, inl, inr}
-use Rattle.std.specs.Prelude.{◌⊎◌, ◌&&◌, IsTrue}
-use Rattle.std.specs.List.{AllByRecursion, list_all}
+use Rattle.std.proofs.Common.{ℕ, true, ◌≡◌, List, [], ◌∷◌, ◌++◌, map, refl, sym, ap, ◌∙◌, subst}
+use Rattle.std.specs.Prelude.{◌&&◌}
+use Rattle.std.specs.List.{AllByRecursion}
 use Rattle.lps_terms.specs.declared.built.Built.{Built}
 use Rattle.lps_terms.specs.declared.built.Built.TheVariants as b
 use Rattle.lps_terms.specs.declared.cond.Cond.{Cond}
@@ -16,7 +16,7 @@ use Rattle.lps_model.specs.VariableLists.{args_vars, built_vars, cond_vars, expr
 use Rattle.lps_derivation.specs.Expressions.{put_expr, put_expr-Leaf, put_expr-Apply, expr_ind}
 use Rattle.lps_derivation.specs.Ground.{is_ground}
 use Rattle.lps_derivation.specs.Instances.{put_built, put_cond}
-use Rattle.lps_solve.specs.Met.{AreGround, is_ground_expr, IsGroundBuilt, IsGroundCond}
+use Rattle.lps_solve.specs.Met.{is_ground_expr, IsGroundBuilt, IsGroundCond}
 use Rattle.lps_solve.specs.Moded.{IsClosed}
 use Rattle.lps_solve.proofs.Grounds.{first_of_two, second_of, ground_leaf, ground_apply}
 use Rattle.lps_solve.proofs.Vars.{all_append, all_first, all_second, all_weaker, no_vars, no_vars_list, put_vars, put_args_vars, put_expr_vars, vars_of-Int, vars_of-Sym, vars_of-App, vars_of-Var, vars_of-Leaf, vars_of-Apply}

@@ -1,5 +1,5 @@
 -- Heights fall from a goal to the goals that its clauses call, and stay or fall as terms are put in.
-use Rattle.std.proofs.Common.{ℕ, Bool, true, false, not, ◌≡◌, ◌+◌, ◌*◌, ◌≤◌, ◌<◌, List, [], ◌∷◌, ◌++◌, map, length, max, min, refl, sym, ap, ◌∙◌, subst, arith, inl, inr}
+use Rattle.std.proofs.Common.{ℕ, Bool, true, false, not, ◌≡◌, ◌+◌, ◌*◌, ◌≤◌, ◌<◌, List, [], ◌∷◌, map, length, min, refl, sym, ap, ◌∙◌, subst, arith, inl, inr}
 use Rattle.std.specs.Prelude.{zero, suc, ◌⊎◌, ◌||◌, Contains, Option, Some, None, if◌then◌else◌}
 use Rattle.std.specs.List.{AllByRecursion, list_any}
 use Rattle.std.proofs.Math.Nat.{mul-le-mul_right}
@@ -21,9 +21,9 @@ use Rattle.lps_terms.specs.OrderLaws.{term_eq-decides}
 use Rattle.lps_terms.specs.Put.{put, put_atom, after, put-App}
 use Rattle.lps_terms.specs.Symbols.{atom_symbols_of, symbols_of, symbols_of_all, symbols_of-App, symbols_of_all-cons}
 use Rattle.lps_model.specs.Acceptance.{IsAccepted}
-use Rattle.lps_model.specs.Calls.{are_nested, calls, descends, is_called, is_inside, is_inside_within, starred, starred_by, starred_of}
+use Rattle.lps_model.specs.Calls.{are_nested, calls, descends, is_called, is_inside_within, starred, starred_by, starred_of}
 use Rattle.lps_model.specs.Declarations.{decl_among, kind_among, kind_in}
-use Rattle.lps_model.specs.Known.{declared_needs, kind_needs, marked_vars, argument_needs}
+use Rattle.lps_model.specs.Known.{declared_needs, kind_needs, marked_vars}
 use Rattle.lps_model.specs.Levels.{AreLevels, IsLevel, level_among}
 use Rattle.lps_model.specs.Program.{declarations}
 use Rattle.lps_model.specs.VariableLists.{args_vars, term_vars}

@@ -1,8 +1,7 @@
 -- What is known along a search: from acceptance to the start of a clause, and from condition to condition.
-use Rattle.std.proofs.Common.{ℕ, Bool, true, false, ◌≡◌, ◌+◌, List, [], ◌∷◌, ◌++◌, map, refl, sym, ap, ◌∙◌, subst, inl, inr, arith}
+use Rattle.std.proofs.Common.{ℕ, Bool, true, false, ◌≡◌, ◌+◌, List, [], ◌∷◌, ◌++◌, map, refl, sym, ap, ◌∙◌, subst, inl, inr}
 use Rattle.std.specs.Prelude.{◌⊎◌, ◌||◌, IsTrue, Contains, Option, Some, None, if◌then◌else◌}
 use Rattle.std.specs.List.{AllByRecursion, flat_map}
-use Rattle.std.specs.Option.{option_or}
 use Rattle.std.proofs.lemmas.List.Elements.{Contains-get_or}
 use Rattle.lps_terms.specs.declared.atom.Atom.{Atom}
 use Rattle.lps_terms.specs.declared.built.Built.{Built}
@@ -12,7 +11,6 @@ use Rattle.lps_terms.specs.declared.cond.Cond.TheVariants as c
 use Rattle.lps_terms.specs.declared.decl.Decl.{Decl}
 use Rattle.lps_terms.specs.declared.kind.Kind.{Kind}
 use Rattle.lps_terms.specs.declared.kind.Kind.TheVariants as k
-use Rattle.lps_terms.specs.declared.lit.Lit.{Lit}
 use Rattle.lps_terms.specs.declared.mode.Mode.{Mode}
 use Rattle.lps_terms.specs.declared.mode.Mode.TheVariants as m
 use Rattle.lps_terms.specs.declared.term.Term.{Term}
@@ -21,17 +19,16 @@ use Rattle.lps_terms.specs.declared.text.Text.{Text}
 use Rattle.lps_terms.specs.Put.{put}
 use Rattle.lps_model.specs.Acceptance.{IsAccepted}
 use Rattle.lps_model.specs.Declarations.{decl_among}
-use Rattle.lps_model.specs.Known.{Scope, are_known, body_unknown, built_needs, cond_needs, conds_unknown, declared_needs, head_known, is_known, kind_needs, learnt, lit_needs, marked_vars, argument_needs, same_needs, scope_at, unknown_among}
+use Rattle.lps_model.specs.Known.{Scope, are_known, body_unknown, built_needs, cond_needs, conds_unknown, declared_needs, head_known, is_known, kind_needs, learnt, marked_vars, argument_needs, same_needs, scope_at, unknown_among}
 use Rattle.lps_model.specs.Program.{declarations}
 use Rattle.lps_model.specs.VariableLists.{args_vars, atom_vars, cond_vars, expr_vars, term_vars}
 use Rattle.lps_derivation.specs.Clauses.{Clause, clauses}
-use Rattle.lps_derivation.specs.Expressions.{put_expr}
 use Rattle.lps_derivation.specs.Ground.{is_ground}
 use Rattle.lps_derivation.specs.Instances.{put_built, put_cond}
 use Rattle.lps_unify.specs.Bindings.{TrailedBindings, standing, Solves, IsLawful}
 use Rattle.lps_unify.specs.Unified.{JoinsAllOn}
 use Rattle.lps_unify.proofs.Standings.{sound, solves_itself}
-use Rattle.lps_solve.specs.Answers.{variables_left, with_vars}
+use Rattle.lps_solve.specs.Answers.{variables_left}
 use Rattle.lps_solve.specs.declared.ways.Ways.{Ways}
 use Rattle.lps_solve.specs.Met.{AreGround, IsGroundCond, MeetsOn}
 use Rattle.lps_solve.specs.Moded.{AreModed, IsClosed, IsMarked, IsModedFor, IsModedRun, IsModedStep, IsReady, IsReadyCond, needs_of}
@@ -39,7 +36,7 @@ use Rattle.lps_solve.specs.Placed.{shift, values_in}
 use Rattle.lps_solve.specs.Table.{IsPlaceOf, clause_at}
 use Rattle.lps_solve.proofs.Accepted.{is_stated}
 use Rattle.lps_solve.proofs.Answering.{from_zero, with_all}
-use Rattle.lps_solve.proofs.Closed.{IsClosedAt, closed_put, closed_put_args, closed_put_expr, closed_stays, cond_comes, no_left, no_right, put_args_closed, put_closed}
+use Rattle.lps_solve.proofs.Closed.{IsClosedAt, closed_put, closed_put_args, closed_put_expr, closed_stays, cond_comes, no_left, no_right, put_closed}
 use Rattle.lps_solve.proofs.Entering.{shifted_is}
 use Rattle.lps_solve.proofs.Grounds.{first_of_two, list_stays, second_of}
 use Rattle.lps_solve.proofs.Moding.{body_is_known, neither_is, wanted_nothing}

@@ -1,9 +1,8 @@
 -- Acceptance says of each clause that its conditions are well-moded.
-use Rattle.std.proofs.Common.{ℕ, true, false, ◌≡◌, List, [], ◌∷◌, refl, sym, ap, subst, ◌∙◌, inl, inr}
+use Rattle.std.proofs.Common.{ℕ, false, ◌≡◌, List, [], ◌∷◌, refl, sym, ap, subst, ◌∙◌, inl, inr}
 use Rattle.std.specs.Prelude.{◌⊎◌, Contains, Option, Some, None}
 use Rattle.std.specs.Option.{option_or}
 use Rattle.lps_terms.specs.declared.atom.Atom.{Atom}
-use Rattle.lps_terms.specs.declared.body.Body.{Body}
 use Rattle.lps_terms.specs.declared.body.Body.TheVariants as b
 use Rattle.lps_terms.specs.declared.cond.Cond.{Cond}
 use Rattle.lps_terms.specs.declared.decl.Decl.{Decl}
@@ -12,7 +11,6 @@ use Rattle.lps_terms.specs.declared.kind.Kind.TheVariants as k
 use Rattle.lps_terms.specs.declared.mode.Mode.{Mode}
 use Rattle.lps_terms.specs.declared.refused.Refused.{Refused}
 use Rattle.lps_terms.specs.declared.statement.Statement.{Statement}
-use Rattle.lps_terms.specs.declared.term.Term.{Term}
 use Rattle.lps_terms.specs.declared.text.Text.{Text}
 use Rattle.lps_model.specs.Acceptance.{IsAccepted}
 use Rattle.lps_model.specs.Declarations.{decl_among, kind_among}
@@ -20,7 +18,7 @@ use Rattle.lps_model.specs.KindRefusals.{kind_refusal}
 use Rattle.lps_model.specs.Known.{Scope, body_unknown, cond_needs, conds_unknown, declared_needs, head_known, kind_needs, learnt, marked_vars, refused_or, scope_at, statements_unknown, unknown_among, unknown_of}
 use Rattle.lps_model.specs.Order.{order_refusal}
 use Rattle.lps_model.specs.Program.{declarations}
-use Rattle.lps_model.specs.VariableLists.{args_vars, atom_vars, cond_vars}
+use Rattle.lps_model.specs.VariableLists.{atom_vars, cond_vars}
 use Rattle.lps_model.proofs.Elements.{first_or_later, nothing_contained}
 use Rattle.lps_unify.specs.Bindings.{TrailedBindings}
 use Rattle.lps_solve.specs.Moded.{AreModed}

@@ -1,13 +1,11 @@
 -- What is closed and not ground is ground in no instance.
 use Rattle.std.proofs.Common.{ℕ, true, false, ◌≡◌, List, [], map, refl, sym, ap, ◌∙◌, subst, inl, inr}
-use Rattle.std.specs.Prelude.{◌⊎◌}
 use Rattle.std.specs.List.{list_all}
 use Rattle.lps_terms.specs.declared.atom.Atom.{Atom}
 use Rattle.lps_terms.specs.declared.built.Built.TheVariants as b
 use Rattle.lps_terms.specs.declared.cond.Cond.TheVariants as c
 use Rattle.lps_terms.specs.declared.expr.Expr.{Expr}
 use Rattle.lps_terms.specs.declared.lit.Lit.{Lit}
-use Rattle.lps_terms.specs.declared.rel.Rel.{Rel}
 use Rattle.lps_terms.specs.declared.term.Term.{Term}
 use Rattle.lps_terms.specs.Put.{put}
 use Rattle.lps_model.specs.VariableLists.{args_vars, expr_vars}
@@ -15,11 +13,10 @@ use Rattle.lps_derivation.specs.Clauses.{Clause}
 use Rattle.lps_derivation.specs.Expressions.{put_expr}
 use Rattle.lps_derivation.specs.Ground.{is_ground}
 use Rattle.lps_derivation.specs.Instances.{put_built, put_cond}
-use Rattle.lps_unify.specs.Bindings.{TrailedBindings, count_of, standing, IsLawful, Solves, resolved}
+use Rattle.lps_unify.specs.Bindings.{TrailedBindings, count_of}
 use Rattle.lps_unify.specs.Unified.{AreWithin}
 use Rattle.lps_solve.specs.declared.ways.Ways.{Ways}
-use Rattle.lps_solve.specs.Found.{Gains, IsResolvedRow}
-use Rattle.lps_solve.specs.Met.{AreGround, IsGroundBuilt, MeetsBy, is_ground_expr}
+use Rattle.lps_solve.specs.Met.{IsGroundBuilt, MeetsBy, is_ground_expr}
 use Rattle.lps_solve.specs.Moded.{IsClosed, IsReady}
 use Rattle.lps_solve.proofs.Closed.{closed_stays, closed_args_stay, closed_expr_stays}
 use Rattle.lps_solve.proofs.Meeting.{never_on}

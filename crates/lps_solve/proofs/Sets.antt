@@ -1,8 +1,7 @@
 -- What holds of known variables holds of those that are found known, and of those learnt.
-use Rattle.std.proofs.Common.{ℕ, Bool, true, false, ◌≡◌, List, [], ◌∷◌, ◌++◌, refl, sym, subst, ap}
-use Rattle.std.specs.Prelude.{nat_eq, ◌||◌, if◌then◌else◌, Option, Some, None}
-use Rattle.std.specs.List.{AllByRecursion, flat_map, list_any}
-use Rattle.std.specs.Option.{option_or}
+use Rattle.std.proofs.Common.{ℕ, Bool, true, false, ◌≡◌, List, [], ◌∷◌, ◌++◌, refl, subst}
+use Rattle.std.specs.Prelude.{nat_eq, ◌||◌, if◌then◌else◌, Some, None}
+use Rattle.std.specs.List.{AllByRecursion, flat_map}
 use Rattle.std.proofs.lemmas.Bool.{eqb-true}
 use Rattle.lps_terms.specs.declared.cond.Cond.{Cond}
 use Rattle.lps_model.specs.Known.{Scope, cond_needs, conds_unknown, is_known, learnt, unknown_among, with_var, written}

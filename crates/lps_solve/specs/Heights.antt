@@ -1,5 +1,5 @@
 -- How far down a search may go: a number for each goal that is higher than those of the goals that its clauses call.
-use Rattle.std.specs.Prelude.{ℕ, ◌+◌, ◌*◌, List, [], ◌∷◌, length, map, max, min, Option, None, Some, if◌then◌else◌}
+use Rattle.std.specs.Prelude.{ℕ, ◌+◌, ◌*◌, List, [], ◌∷◌, length, max, min, Option, None, Some, if◌then◌else◌}
 use Rattle.lps_terms.specs.declared.atom.Atom.{Atom}
 use Rattle.lps_terms.specs.declared.cond.Cond.{Cond}
 use Rattle.lps_terms.specs.declared.cond.Cond.TheVariants as c
@@ -10,7 +10,6 @@ use Rattle.lps_terms.specs.Symbols.{symbols_of}
 use Rattle.lps_model.specs.Calls.{is_called, starred_of}
 use Rattle.lps_model.specs.Declarations.{kind_among}
 use Rattle.lps_model.specs.Levels.{level_among}
-use Rattle.lps_model.specs.Program.{declarations}
 use Rattle.lps_model.specs.VariableLists.{term_vars}
 use Rattle.lps_derivation.specs.Clauses.{Clause, clauses}
 use Rattle.lps_derivation.specs.Instances.{put_cond}

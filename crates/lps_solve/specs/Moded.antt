@@ -7,7 +7,6 @@ use Rattle.lps_terms.specs.declared.built.Built.TheVariants as b
 use Rattle.lps_terms.specs.declared.cond.Cond.{Cond}
 use Rattle.lps_terms.specs.declared.cond.Cond.TheVariants as c
 use Rattle.lps_terms.specs.declared.decl.Decl.{Decl}
-use Rattle.lps_terms.specs.declared.lit.Lit.{Lit}
 use Rattle.lps_terms.specs.declared.term.Term.{Term}
 use Rattle.lps_terms.specs.declared.text.Text.{Text}
 use Rattle.lps_terms.specs.Put.{put}

@@ -32,19 +32,20 @@ mod copy;
 mod found;
 mod ground;
 mod laws;
+mod lists;
 mod place;
 mod place_cond;
 mod program;
 mod row;
 mod search;
 mod size;
-mod unify_all;
 mod variables;
 mod ways;
 
 pub use answer::answers;
 pub use ground::are_ground;
 pub use laws::accepted_texts_are_sound;
+pub use lists::unify_all;
 pub use program::Program;
 pub use variables::{above_conds, note_cond};
 

@@ -1,5 +1,4 @@
-use Rattle.std.proofs.Common.{arith}
-use Rattle.lps_levels.proofs.Adding.{items_all, items_more, items_none}
+use Rattle.lps_levels.proofs.Adding.{items_more, items_none}
 use Rattle.lps_levels.proofs.calls.add_items.Goals as goal
 
 pub loop-item-init : goal.loop-item-init

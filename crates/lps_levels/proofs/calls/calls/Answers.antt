@@ -1,6 +1,6 @@
 use Rattle.lps_terms.specs.declared.statement.Statement.{Statement}
 use Rattle.lps_model.specs.Calls.{calls_in}
-use Rattle.lps_levels.proofs.Adding.{added_more, added_none}
+use Rattle.lps_levels.proofs.Adding.{added_more}
 use Rattle.lps_levels.proofs.calls.calls.Goals as goal
 
 pub loop-statement-preserved : goal.loop-statement-preserved

@@ -1,9 +1,9 @@
-use Rattle.std.proofs.Common.{◌≡◌, List, ap, flat_map, subst, sym, ◌∙◌, arith, []}
+use Rattle.std.proofs.Common.{ap, flat_map, subst, sym, ◌∙◌, arith}
 use Rattle.std.proofs.lemmas.List.{take_all}
 use Rattle.lps_terms.specs.declared.statement.Statement.{Statement}
 use Rattle.lps_model.specs.Program.{declared_in}
 use Rattle.lps_levels.specs.Names.{AreCalledAmong}
-use Rattle.lps_levels.proofs.Numbers.{called_all, called_none, declared_step}
+use Rattle.lps_levels.proofs.Numbers.{called_all, declared_step}
 use Rattle.lps_levels.proofs.names.called_names.Goals as goal
 
 pub loop-statement-preserved : goal.loop-statement-preserved

@@ -1,4 +1,4 @@
-use Rattle.std.proofs.Common.{◌≡◌, ◌∙◌, All, List, ℕ, ap, flat_map, subst, sym}
+use Rattle.std.proofs.Common.{◌≡◌, ◌∙◌, All, flat_map, subst, sym}
 use Rattle.lps_terms.specs.declared.statement.Statement.{Statement}
 use Rattle.lps_model.specs.Calls.{calls, calls_in}
 use Rattle.lps_model.specs.Program.{declarations}

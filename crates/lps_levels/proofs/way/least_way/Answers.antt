@@ -1,4 +1,4 @@
-use Rattle.std.proofs.Common.{◌≡◌, ◌-◌, ℕ, suc, Some, sym, ap, subst, ◌∙◌, arith, []}
+use Rattle.std.proofs.Common.{◌≡◌, ◌-◌, suc, Some, ap, subst, ◌∙◌, arith, []}
 use Rattle.std.proofs.lemmas.List.{append-nil, get_or_read}
 use Rattle.lps_model.specs.Levels.{IsLeastWay}
 use Rattle.lps_levels.specs.Graphs.{calls_by, name_at}

@@ -14,7 +14,7 @@ use Rattle.lps_causal.proofs.causal_laws.CausalLaws.effects_beside.Goals as goal
 
 pub given-requires-clause-ground : goal.given-requires-clause-ground
 given-requires-clause-ground c =
-    mixed_ground c.args.program.now (members c.args.facts.now) c.args.events.now (members c.insert_all.new.facts) c.requires.state c.requires.events
+    mixed_ground c.args.program.now (members c.args.facts.now) c.args.events.now (members c.insert_all.new.self) c.requires.state c.requires.events
     (subst (λ (after : TrailedSet). (a : Atom) → Contains (members after) a ↔ (Contains (members c.args.facts.now) a ⊎ Contains c.args.events.now a)) (sym c.in_ok-insert_all.ensures.all)
     (mixed_with c.args.facts.now c.args.events.now))
 
@@ -23,7 +23,7 @@ given-requires-clause-places c = λ i h. ((c.in_ok-places.ensures i).0 (subst (�
 
 pub given-requires-2-clause-ground : goal.given-requires-2-clause-ground
 given-requires-2-clause-ground c =
-    mixed_ground c.args.program.now (members c.args.facts.now) c.args.events.now (members c.insert_all.new.facts) c.requires.state c.requires.events
+    mixed_ground c.args.program.now (members c.args.facts.now) c.args.events.now (members c.insert_all.new.self) c.requires.state c.requires.events
     (subst (λ (after : TrailedSet). (a : Atom) → Contains (members after) a ↔ (Contains (members c.args.facts.now) a ⊎ Contains c.args.events.now a)) (sym c.in_ok-insert_all.ensures.all)
     (mixed_with c.args.facts.now c.args.events.now))
 
@@ -36,7 +36,7 @@ returns-clause-effects c =
     (λ effects. effects.terminated ≡ filter (λ a. not (is_among c.in_ok-initiated.initiated.keys a)) c.in_ok-terminated.terminated.keys)
     (λ effects. (level : List ℕ → ℕ) → AreLevels (clauses c.args.program.now) level → AreEffects c.args.program.now level (members c.args.facts.now) c.args.events.now effects)
     (λ effects one other.
-    are_made c.args.program.now c.lawful.ensures.accepted c.lawful.ensures.formed c.args.facts.now c.args.events.now c.insert_all.new.facts c.requires.state c.requires.events c.in_ok-insert_all.ensures.all
+    are_made c.args.program.now c.lawful.ensures.accepted c.lawful.ensures.formed c.args.facts.now c.args.events.now c.insert_all.new.self c.requires.state c.requires.events c.in_ok-insert_all.ensures.all
     c.args.self.now c.requires.laws c.in_ok-places.places.items c.in_ok-places.ensures c.as_slice.result.now c.as_slice-2.result.now c.as_slice.ensures.value c.as_slice-2.ensures.value
     c.in_ok-initiated.initiated.keys c.in_ok-terminated.terminated.keys c.in_ok-initiated.ensures.given c.in_ok-terminated.ensures.given c.in_ok-initiated.ensures.ordered c.in_ok-terminated.ensures.ordered effects one other)
     c.settled.ensures.initiated c.settled.ensures.terminated

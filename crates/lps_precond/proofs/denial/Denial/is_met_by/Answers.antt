@@ -17,21 +17,21 @@ use Rattle.lps_precond.proofs.Asked.{back_asked}
 use Rattle.lps_precond.proofs.Rows.{back_found, empty_is, no_row, row_solves, shared_within, start_below, values_ground}
 use Rattle.lps_precond.proofs.denial.Denial.is_met_by.Goals as goal
 
-pub unify_row-requires-clause-left : goal.unify_row-requires-clause-left
-unify_row-requires-clause-left c =
+pub unify_all-requires-clause-left : goal.unify_all-requires-clause-left
+unify_all-requires-clause-left c =
     let b = c.in_ok-bindings.bindings in
     let prepared = subst (λ (d : Cut). IsPrepared d c.self.inside.shared c.self.inside.variables) c.self.view_is c.self.invariant in
     subst (AreWithin (count_of b)) (sym c.as_slice.ensures) (shared_within b c.self.inside.variables c.in_ok-bindings.ensures.first c.in_ok-bindings.ensures.added c.args.self.now c.self.inside.shared prepared)
 
-pub unify_row-requires-clause-right : goal.unify_row-requires-clause-right
-unify_row-requires-clause-right c = ground_within (count_of c.in_ok-bindings.bindings) c.args.row.now c.requires.row.ground
+pub unify_all-requires-clause-right : goal.unify_all-requires-clause-right
+unify_all-requires-clause-right c = ground_within (count_of c.in_ok-bindings.bindings) c.args.row.now c.requires.row.ground
 
 pub returns-then-not-branch : goal.returns-then-not-branch
 returns-then-not-branch c = λ level levels.
     let old = c.in_ok-bindings.bindings in
-    let new = c.unify_row.new.bindings in
+    let new = c.unify_all.new.bindings in
     let prepared = subst (λ (d : Cut). IsPrepared d c.self.inside.shared c.self.inside.variables) c.self.view_is c.self.invariant in
-    let joins = subst (λ found. JoinsAllOn found old new c.as_slice.result.now c.args.row.now) c.if-not-branch.true c.in_ok-unify_row.ensures.answer in (
+    let joins = subst (λ found. JoinsAllOn found old new c.as_slice.result.now c.args.row.now) c.if-not-branch.true c.in_ok-unify_all.ensures.answer in (
       λ h. absurd (let holds : false ≡ true = h in cc),
       λ h. absurd (no_row c.args.self.now c.args.row.now c.as_slice.result.now (c.as_slice.ensures ∙ prepared.shared_are) c.requires.row old new c.in_ok-bindings.ensures.added joins h.values h.is),
     )
@@ -39,19 +39,19 @@ returns-then-not-branch c = λ level levels.
 pub answers-requires-clause-below : goal.answers-requires-clause-below
 answers-requires-clause-below c =
     let old = c.in_ok-bindings.bindings in
-    let new = c.unify_row.new.bindings in
+    let new = c.unify_all.new.bindings in
     let prepared = subst (λ (d : Cut). IsPrepared d c.self.inside.shared c.self.inside.variables) c.self.view_is c.self.invariant in
     let below = start_below old c.self.inside.variables c.in_ok-bindings.ensures.first c.in_ok-bindings.ensures.added (flat_map cond_vars c.args.self.now.back) prepared.back in
     let back_is = ap (λ (d : Cut). d.back) (sym c.self.view_is) ∙ sym c.as_slice-2.ensures in
     subst (λ (ks : List Cond). AreBelow (count_of new) 0 (flat_map cond_vars ks)) back_is
-    (subst (λ n. AreBelow n 0 (flat_map cond_vars c.args.self.now.back)) (sym c.in_ok-unify_row.ensures.extended.count) below)
+    (subst (λ n. AreBelow n 0 (flat_map cond_vars c.args.self.now.back)) (sym c.in_ok-unify_all.ensures.extended.count) below)
 
 pub answers-requires-clause-moded : goal.answers-requires-clause-moded
 answers-requires-clause-moded c =
     let old = c.in_ok-bindings.bindings in
-    let new = c.unify_row.new.bindings in
+    let new = c.unify_all.new.bindings in
     let prepared = subst (λ (d : Cut). IsPrepared d c.self.inside.shared c.self.inside.variables) c.self.view_is c.self.invariant in
-    let joins = subst (λ found. JoinsAllOn found old new c.as_slice.result.now c.args.row.now) c.if-not-branch.false c.in_ok-unify_row.ensures.answer in
+    let joins = subst (λ found. JoinsAllOn found old new c.as_slice.result.now c.args.row.now) c.if-not-branch.false c.in_ok-unify_all.ensures.answer in
     let ground = values_ground c.args.self.now c.args.row.now c.as_slice.result.now (c.as_slice.ensures ∙ prepared.shared_are) c.requires.row old new c.in_ok-bindings.ensures.added c.lawful-2.ensures joins in
     let back_is = ap (λ (d : Cut). d.back) (sym c.self.view_is) ∙ sym c.as_slice-2.ensures in
     subst (AreModed c.args.program.now new) back_is (back_asked c.args.program.now c.lawful.ensures.accepted c.lawful.ensures.formed c.args.self.now c.requires.of_text new ground)
@@ -59,11 +59,11 @@ answers-requires-clause-moded c =
 pub returns : goal.returns
 returns c = λ level levels.
     let old = c.in_ok-bindings.bindings in
-    let new = c.unify_row.new.bindings in
+    let new = c.unify_all.new.bindings in
     let program = clauses c.args.program.now in
     let facts = members c.args.facts.now in
     let prepared = subst (λ (d : Cut). IsPrepared d c.self.inside.shared c.self.inside.variables) c.self.view_is c.self.invariant in
-    let joins = subst (λ found. JoinsAllOn found old new c.as_slice.result.now c.args.row.now) c.if-not-branch.false c.in_ok-unify_row.ensures.answer in
+    let joins = subst (λ found. JoinsAllOn found old new c.as_slice.result.now c.args.row.now) c.if-not-branch.false c.in_ok-unify_all.ensures.answer in
     let solves = row_solves c.args.self.now c.args.row.now c.as_slice.result.now (c.as_slice.ensures ∙ prepared.shared_are) c.requires.row old new c.in_ok-bindings.ensures.added joins in
     let back_is = ap (λ (d : Cut). d.back) (sym c.self.view_is) ∙ sym c.as_slice-2.ensures in
     let rows = map (λ v. v.0) c.in_ok-found.found.items in

@@ -1,4 +1,4 @@
-use Rattle.std.proofs.Common.{◌∙◌, ◌↔◌, ℕ, List, ap, subst}
+use Rattle.std.proofs.Common.{◌∙◌, ◌↔◌, List, ap, subst}
 use Rattle.std.specs.Prelude.{Contains}
 use Rattle.lps_derivation.specs.Clauses.{Clause, clauses}
 use Rattle.lps_solve.specs.Table.{IsPlaceOf}

@@ -6,13 +6,9 @@ use lps_terms::Term;
 use lps_unify::Bindings;
 use std::alloc::AllocError;
 
-/// Adds a most general unifier of two lists of terms, item by item. What was bound on the way to false or to an error
-/// stays.
-pub(crate) fn unify_all(
-    bindings: &mut Bindings,
-    xs: &[Term],
-    ys: &[Term],
-) -> Result<bool, AllocError>
+/// Adds a most general unifier of two lists of as many terms, item by item. False comes exactly where there is none. What was
+/// bound on the way to false, or to an error where memory runs out, stays.
+pub fn unify_all(bindings: &mut Bindings, xs: &[Term], ys: &[Term]) -> Result<bool, AllocError>
     requires left { AreWithin (count_of bindings.now) xs.now }
     requires right { AreWithin (count_of bindings.now) ys.now }
     requires count { length xs.now ≡ length ys.now }

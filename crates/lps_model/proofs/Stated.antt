@@ -16,7 +16,7 @@ use Rattle.lps_model.specs.declared.occurrence.Occurrence.{Occurrence}
 use Rattle.lps_model.specs.declared.place.Place.{Place}
 use Rattle.lps_model.specs.Acceptance.{IsAccepted}
 use Rattle.lps_model.specs.Declarations.{decl_among, kind_among, kind_in}
-use Rattle.lps_model.specs.KindRefusals.{declared_twice, first_where, has_no_event, is_not_ground, is_undeclared, is_wrong_kind, kind_refusal, may_stand, name_refusal, no_event, not_ground, or_else, refused_by, statement_refusal, undeclared, wrong_arity, wrong_kind}
+use Rattle.lps_model.specs.KindRefusals.{declared_twice, first_where, has_no_event, is_not_ground, is_undeclared, is_wrong_kind, kind_refusal, may_stand, name_refusal, no_event, not_ground, refused_by, statement_refusal, undeclared, wrong_arity, wrong_kind}
 use Rattle.lps_model.specs.Known.{body_unknown, refused_or, statements_unknown, unknown_of}
 use Rattle.lps_model.specs.Occurrences.{in_body, occurrences}
 use Rattle.lps_model.specs.Order.{order_refusal}
@@ -64,10 +64,6 @@ pub neither : {X : Type 0} (one other : Option X) → option_or one other ≡ No
 neither None other e = (refl, e)
 neither (Some x) other e = absurd cc
 
-neither_refusal : (one other : Option Refused) → or_else one other ≡ None → (one ≡ None) × (other ≡ None)
-neither_refusal None other e = (refl, e)
-neither_refusal (Some refused) other e = absurd cc
-
 pub not_not : (b : Bool) → not b ≡ false → b ≡ true
 not_not true e = refl
 not_not false e = absurd cc
@@ -88,13 +84,13 @@ module _ (text : Text) (accepted : IsAccepted text) where
   none_unknown = (neither (order_refusal (kind_among (declarations text)) text.statements) (unknown_of text) (neither (kind_refusal text) _ accepted.not_refused).1).1
 
   no_statement_refused : statement_refusal text.statements ≡ None
-  no_statement_refused = (neither_refusal (name_refusal text (declarations text) (occurrences (declarations text) text)) (statement_refusal text.statements) no_kind_refused).1
+  no_statement_refused = (neither (name_refusal text (declarations text) (occurrences (declarations text) text)) (statement_refusal text.statements) no_kind_refused).1
 
   all_ground : not_ground text.statements ≡ None
-  all_ground = (neither_refusal (not_ground text.statements) (no_event text.statements) no_statement_refused).0
+  all_ground = (neither (not_ground text.statements) (no_event text.statements) no_statement_refused).0
 
   all_have_events : no_event text.statements ≡ None
-  all_have_events = (neither_refusal (not_ground text.statements) (no_event text.statements) no_statement_refused).1
+  all_have_events = (neither (not_ground text.statements) (no_event text.statements) no_statement_refused).1
 
 each_ground : (statements : List Statement) → not_ground statements ≡ None → (s : Statement) → Contains statements s → is_not_ground s.body ≡ false
 each_ground [] e s at = absurd (nothing_contained s at)
@@ -166,10 +162,10 @@ pub are_placed : (text : Text) → kind_refusal text ≡ None → (o : Occurrenc
 are_placed text e o at =
     let decls : List Decl = declarations text in
     let os : List Occurrence = occurrences (declarations text) text in
-    let names = neither_refusal (name_refusal text decls os) (statement_refusal text.statements) e in
-    let first = neither_refusal (undeclared decls os) (or_else (declared_twice text) (or_else (wrong_arity decls os) (wrong_kind decls os))) names.0 in
-    let second = neither_refusal (declared_twice text) (or_else (wrong_arity decls os) (wrong_kind decls os)) first.1 in
-    let third = neither_refusal (wrong_arity decls os) (wrong_kind decls os) second.1 in
+    let names = neither (name_refusal text decls os) (statement_refusal text.statements) e in
+    let first = neither (undeclared decls os) (option_or (declared_twice text) (option_or (wrong_arity decls os) (wrong_kind decls os))) names.0 in
+    let second = neither (declared_twice text) (option_or (wrong_arity decls os) (wrong_kind decls os)) first.1 in
+    let third = neither (wrong_arity decls os) (wrong_kind decls os) second.1 in
     record {
       declared = none_where (λ o found. is_undeclared found) decls os (none_found _ _ first.0) o at;
       placed = none_where (λ o found. is_wrong_kind o.place found) decls os (none_found _ _ third.1) o at;

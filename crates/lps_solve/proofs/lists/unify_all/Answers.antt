@@ -4,7 +4,7 @@ use Rattle.lps_unify.specs.Weights.{IsWithin}
 use Rattle.lps_unify.proofs.Lists.{extended_more, first_start, first_more, first_fails, first_whole}
 use Rattle.lps_unify.proofs.Joins.{extended_refl}
 use Rattle.lps_solve.proofs.Entering.{within_at, extends_on, joins_on}
-use Rattle.lps_solve.proofs.unify_all.unify_all.Goals as goal
+use Rattle.lps_solve.proofs.lists.unify_all.Goals as goal
 
 pub loop-i-init : goal.loop-i-init
 loop-i-init c = record {

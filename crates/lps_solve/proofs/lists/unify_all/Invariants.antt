@@ -1,5 +1,5 @@
 use Rattle.lps_unify.specs.Unified.{AddsFirst, IsExtended}
-use Rattle.lps_solve.proofs.unify_all.unify_all.Given as goal
+use Rattle.lps_solve.proofs.lists.unify_all.Given as goal
 
 -- the items so far are equal
 abbrev pub invariant-loop-i : goal.invariant-loop-i

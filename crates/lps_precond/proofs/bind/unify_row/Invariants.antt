@@ -1,9 +1,0 @@
-use Rattle.lps_unify.specs.Unified.{AddsFirst, IsExtended}
-use Rattle.lps_precond.proofs.bind.unify_row.Given as goal
-
--- the items so far are equal
-abbrev pub invariant-loop-i : goal.invariant-loop-i
-invariant-loop-i l = record {
-  extended : IsExtended l.fn.bindings l.bindings;
-  adds : AddsFirst l.i l.fn.bindings l.bindings l.terms l.row;
-}
