@@ -14,6 +14,3 @@ mod laws;
 pub use error::AcceptError;
 pub use judge::accept;
 pub use laws::{accepted_texts_are_not_refused, refusals_are_unique};
-
-#[cfg(test)]
-mod tests;

@@ -11,8 +11,6 @@ mod laws;
 mod line;
 mod outcome;
 mod stream;
-#[cfg(test)]
-mod tests;
 
 pub use batch_bad::BatchBad;
 pub use batch_reader::BatchReader;

@@ -13,8 +13,6 @@ mod line;
 mod lists;
 mod statements;
 mod terms;
-#[cfg(test)]
-mod tests;
 mod text;
 
 pub use expressions::expr;

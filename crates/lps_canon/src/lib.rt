@@ -6,8 +6,6 @@
 #![tactic(auto)]
 
 mod laws;
-#[cfg(test)]
-mod tests;
 
 pub use laws::{
     canonical_expressions_are_shortest, canonical_trees_mean_the_same, no_count_grows,

@@ -8,6 +8,3 @@
 mod laws;
 
 pub use laws::{example_law, ground_law, instance_law, level_law, reach_law, size_law, truth_law};
-
-#[cfg(test)]
-mod tests;

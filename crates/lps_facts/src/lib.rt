@@ -18,6 +18,3 @@ pub use change::Change;
 pub use facts::Facts;
 pub use laws::{changes_go_back, members_after_changes};
 pub use mark::Mark;
-
-#[cfg(test)]
-mod tests;

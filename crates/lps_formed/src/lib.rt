@@ -6,7 +6,5 @@
 #![tactic(auto)]
 
 mod laws;
-#[cfg(test)]
-mod tests;
 
 pub use laws::{read_events_are_ground, read_texts_are_formed};

@@ -32,15 +32,3 @@ impl Word {
         self.bytes.as_slice()
     }
 }
-
-#[cfg(test)]
-mod tests {
-    use super::*;
-
-    #[test]
-    fn keeps_its_bytes(rt: HostRuntime) -> Result<(), AllocError> {
-        let word = Word::new(rt.alloc(), b"stock".as_slice())?;
-        assert_eq!(rt; word.bytes(), b"stock".as_slice());
-        Ok(())
-    }
-}

@@ -26,6 +26,3 @@ mod twice;
 
 pub use error::KindsError;
 pub use judge::kinds;
-
-#[cfg(test)]
-mod tests;

@@ -17,8 +17,6 @@ mod judge;
 mod laws;
 mod name_set;
 mod names;
-#[cfg(test)]
-mod tests;
 mod text;
 mod way;
 

@@ -11,8 +11,6 @@ mod number;
 mod piece;
 mod scan;
 mod sign;
-#[cfg(test)]
-mod tests;
 mod token;
 mod token_kind;
 mod word;

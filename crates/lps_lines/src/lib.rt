@@ -9,8 +9,6 @@ mod front;
 mod laws;
 mod line;
 mod line_buffer;
-#[cfg(test)]
-mod tests;
 
 pub use ahead::{Ahead, LONGEST_LINE, look_ahead};
 pub use front::Front;

@@ -22,6 +22,3 @@ pub use laws::{
 };
 pub use node::{Carry, Left, LeftCon, LeftItem, Node};
 pub use when::When;
-
-#[cfg(test)]
-mod tests;

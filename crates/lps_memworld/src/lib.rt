@@ -19,6 +19,3 @@ pub use mem_source::MemSource;
 pub use mem_texts::MemTexts;
 pub use sure_source::SureSource;
 pub use sure_texts::SureTexts;
-
-#[cfg(test)]
-mod tests;

@@ -24,6 +24,3 @@ mod variables;
 pub use laws::{learning_is_union, none_is_unknown};
 pub use modes_error::ModesError;
 pub use text::modes;
-
-#[cfg(test)]
-mod tests;

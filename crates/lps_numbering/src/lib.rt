@@ -11,8 +11,6 @@ mod names;
 mod numbered;
 mod numbering;
 mod plain;
-#[cfg(test)]
-mod tests;
 
 pub use laws::{equal_numbers_are_equal_names, fixed_tokens_are_spelled, numbers_lead_to_names};
 pub use names::Names;

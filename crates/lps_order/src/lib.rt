@@ -11,8 +11,6 @@ mod denial;
 mod error;
 mod happening;
 mod sequence;
-#[cfg(test)]
-mod tests;
 mod times;
 mod walk;
 

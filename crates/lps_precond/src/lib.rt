@@ -23,6 +23,3 @@ mod denial;
 mod denials;
 
 pub use denials::Denials;
-
-#[cfg(test)]
-mod tests;

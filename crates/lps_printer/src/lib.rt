@@ -8,7 +8,5 @@ mod expressions;
 mod items;
 mod statements;
 mod terms;
-#[cfg(test)]
-mod tests;
 
 pub use statements::print_text;

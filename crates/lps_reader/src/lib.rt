@@ -9,8 +9,6 @@
 mod laws;
 mod read_error;
 mod statements;
-#[cfg(test)]
-mod tests;
 mod text;
 
 pub use laws::{texts_are_not_refused, texts_are_unique};

@@ -8,8 +8,6 @@
 mod judge;
 mod laws;
 mod refusal;
-#[cfg(test)]
-mod tests;
 mod text;
 
 pub use judge::refusal_of;

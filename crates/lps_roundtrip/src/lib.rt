@@ -4,8 +4,6 @@
 #![tactic(auto)]
 
 mod laws;
-#[cfg(test)]
-mod tests;
 
 pub use laws::{
     numbering_depends_on_the_words, printed_text_is_read_back, written_tokens_are_numbered_again,

@@ -22,8 +22,3 @@ mod words;
 pub use answer::{Answer, UsageKind};
 pub use laws::streams_are_judged_one_way;
 pub use top::lps;
-
-#[cfg(test)]
-mod state_tests;
-#[cfg(test)]
-mod tests;

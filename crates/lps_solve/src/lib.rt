@@ -48,6 +48,3 @@ pub use laws::accepted_texts_are_sound;
 pub use lists::unify_all;
 pub use program::Program;
 pub use variables::{above_conds, note_cond};
-
-#[cfg(test)]
-mod tests;

@@ -7,8 +7,6 @@ mod count;
 mod laws;
 mod line;
 mod line_verdict;
-#[cfg(test)]
-mod tests;
 mod text;
 mod text_verdict;
 

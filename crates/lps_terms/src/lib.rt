@@ -83,6 +83,3 @@ pub use text_refused::TextRefused;
 pub use time_rel::TimeRel;
 pub use time_var::TimeVar;
 pub use values::Values;
-
-#[cfg(test)]
-mod tests;

@@ -38,6 +38,3 @@ pub use laws::{
 };
 pub use mark::BindMark;
 pub use renumber::canonical;
-
-#[cfg(test)]
-mod tests;

@@ -21,6 +21,3 @@ mod values;
 pub use laws::{division_rounds_down, truth_by_form, values_by_form};
 pub use truth::holds;
 pub use values::value;
-
-#[cfg(test)]
-mod tests;
