@@ -13,21 +13,14 @@ use Rattle.lps_model.specs.Known.{unknown_of}
 use Rattle.lps_model.specs.Levels.{IsUnlevelled}
 use Rattle.lps_model.specs.Order.{order_refusal}
 use Rattle.lps_model.specs.Program.{declarations}
-use Rattle.lps_kinds.specs.declared.error.KindsError.{KindsError}
-use Rattle.lps_kinds.specs.declared.error.KindsError.TheVariants as kinds
 use Rattle.lps_kinds.specs.Answer as kinds_answer
-use Rattle.lps_order.specs.declared.error.OrderError.{OrderError}
-use Rattle.lps_order.specs.declared.error.OrderError.TheVariants as order
 use Rattle.lps_order.specs.Answers as order_answers
-use Rattle.lps_modes.specs.declared.modes_error.ModesError.{ModesError}
-use Rattle.lps_modes.specs.declared.modes_error.ModesError.TheVariants as modes
 use Rattle.lps_modes.specs.Answers.{IsFirstUnknown}
-use Rattle.lps_levels.specs.declared.error.LevelsError.{LevelsError}
-use Rattle.lps_levels.specs.declared.error.LevelsError.TheVariants as levels
+use Rattle.lps_model.specs.declared.judge_error.JudgeError.{JudgeError}
+use Rattle.lps_model.specs.declared.judge_error.JudgeError.TheVariants as judged
 use Rattle.lps_levels.specs.Answers as levels_answers
 use Rattle.lps_levels.specs.Laws.{CyclesAreUnique, LevelsExcludeCycles}
 use Rattle.lps_accept.specs.Answers.{IsRightError}
-use Rattle.lps_accept.specs.Errors.{error_of_kinds, error_of_levels, error_of_modes, error_of_order}
 use Rattle.lps_accept.specs.Laws.{AcceptedAreNotRefused, RefusalsAreUnique}
 use Rattle.lps_accept.proofs.Early.{early_is_refused}
 
@@ -37,42 +30,42 @@ order_of text = order_refusal (kind_among (declarations text)) text.statements
 
 -- ---- the error of each judge, behind those before it
 
-pub kinds_refuse : (text : Text) (error : KindsError) → kinds_answer.IsRightError text error → IsRightError text (error_of_kinds error)
-kinds_refuse text kinds.NoMemory right = tt
-kinds_refuse text (kinds.Refused refused) right = early_is_refused text refused (ap (λ first. option_or first (option_or (order_of text) (unknown_of text))) right)
+pub kinds_refuse : (text : Text) (error : JudgeError) → kinds_answer.IsRightError text error → IsRightError text error
+kinds_refuse text judged.NoMemory right = tt
+kinds_refuse text (judged.Refused refused) right = early_is_refused text refused (ap (λ first. option_or first (option_or (order_of text) (unknown_of text))) right)
 
 behind_kinds : (text : Text) → kind_refusal text ≡ None → early_refusal text ≡ option_or (order_of text) (unknown_of text)
 behind_kinds text placed = ap (λ first. option_or first (option_or (order_of text) (unknown_of text))) placed
 
-pub order_refuses : (text : Text) (error : OrderError) → kind_refusal text ≡ None → order_answers.IsRightError (kind_among (declarations text)) text.statements error →
-    IsRightError text (error_of_order error)
-order_refuses text order.NoMemory placed right = tt
-order_refuses text (order.Refused refused) placed right = early_is_refused text refused (behind_kinds text placed ∙ ap (λ first. option_or first (unknown_of text)) right)
+pub order_refuses : (text : Text) (error : JudgeError) → kind_refusal text ≡ None → order_answers.IsRightError (kind_among (declarations text)) text.statements error →
+    IsRightError text error
+order_refuses text judged.NoMemory placed right = tt
+order_refuses text (judged.Refused refused) placed right = early_is_refused text refused (behind_kinds text placed ∙ ap (λ first. option_or first (unknown_of text)) right)
 
 behind_order : (text : Text) → kind_refusal text ≡ None → order_of text ≡ None → early_refusal text ≡ unknown_of text
 behind_order text placed ordered = behind_kinds text placed ∙ ap (λ first. option_or first (unknown_of text)) ordered
 
-pub modes_refuse : (text : Text) (error : ModesError) → kind_refusal text ≡ None → order_of text ≡ None → IsFirstUnknown text error → IsRightError text (error_of_modes error)
-modes_refuse text modes.NoMemory placed ordered right = tt
-modes_refuse text (modes.Refused refused) placed ordered right = early_is_refused text refused (behind_order text placed ordered ∙ right)
+pub modes_refuse : (text : Text) (error : JudgeError) → kind_refusal text ≡ None → order_of text ≡ None → IsFirstUnknown text error → IsRightError text error
+modes_refuse text judged.NoMemory placed ordered right = tt
+modes_refuse text (judged.Refused refused) placed ordered right = early_is_refused text refused (behind_order text placed ordered ∙ right)
 
 -- the three judges before levels pass the text
 pub none_early : (text : Text) → kind_refusal text ≡ None → order_of text ≡ None → unknown_of text ≡ None → early_refusal text ≡ None
 none_early text placed ordered known = behind_order text placed ordered ∙ known
 
-pub levels_refuse : (text : Text) (error : LevelsError) → early_refusal text ≡ None → levels_answers.IsRightError text error → IsRightError text (error_of_levels error)
-levels_refuse text levels.NoMemory none right = tt
-levels_refuse text (levels.Refused (Unlevelled cycle)) none right = (none, right)
-levels_refuse text (levels.Refused (Undeclared line name)) none right = absurd right
-levels_refuse text (levels.Refused (DeclaredTwice line name)) none right = absurd right
-levels_refuse text (levels.Refused (WrongArity line name)) none right = absurd right
-levels_refuse text (levels.Refused (WrongKind line name)) none right = absurd right
-levels_refuse text (levels.Refused (NotGround line)) none right = absurd right
-levels_refuse text (levels.Refused (NoEvent line)) none right = absurd right
-levels_refuse text (levels.Refused (OutOfOrder line)) none right = absurd right
-levels_refuse text (levels.Refused (MixedGroup line)) none right = absurd right
-levels_refuse text (levels.Refused (BadHeadTimes line)) none right = absurd right
-levels_refuse text (levels.Refused (Unknown line var)) none right = absurd right
+pub levels_refuse : (text : Text) (error : JudgeError) → early_refusal text ≡ None → levels_answers.IsRightError text error → IsRightError text error
+levels_refuse text judged.NoMemory none right = tt
+levels_refuse text (judged.Refused (Unlevelled cycle)) none right = (none, right)
+levels_refuse text (judged.Refused (Undeclared line name)) none right = absurd right
+levels_refuse text (judged.Refused (DeclaredTwice line name)) none right = absurd right
+levels_refuse text (judged.Refused (WrongArity line name)) none right = absurd right
+levels_refuse text (judged.Refused (WrongKind line name)) none right = absurd right
+levels_refuse text (judged.Refused (NotGround line)) none right = absurd right
+levels_refuse text (judged.Refused (NoEvent line)) none right = absurd right
+levels_refuse text (judged.Refused (OutOfOrder line)) none right = absurd right
+levels_refuse text (judged.Refused (MixedGroup line)) none right = absurd right
+levels_refuse text (judged.Refused (BadHeadTimes line)) none right = absurd right
+levels_refuse text (judged.Refused (Unknown line var)) none right = absurd right
 
 -- ---- what a text is refused for
 

@@ -3,10 +3,9 @@ ghost use Rattle.lps_model.specs.Acceptance.{IsAccepted};
 ghost use Rattle.lps_model.specs.Formed.{is_formed};
 ghost use Rattle.lps_accept.specs.Answers.{IsRightError};
 
-use crate::error::AcceptError;
 use lps_kinds::kinds;
 use lps_levels::levels;
-use lps_model::Accepted;
+use lps_model::{Accepted, JudgeError};
 use lps_modes::modes;
 use lps_order::ordered;
 use lps_terms::Text;
@@ -17,7 +16,7 @@ use std::alloc::Global;
 /// `Refused` comes exactly where it is not. The first of these that stands anywhere in the text is the reason, at the first
 /// statement where it stands: `Undeclared`, `DeclaredTwice`, `WrongArity`, `WrongKind`, `NotGround`, `NoEvent`, `OutOfOrder`,
 /// `MixedGroup`, `BadHeadTimes`, `Unknown`, `Unlevelled`. `NoMemory` comes where memory ran out.
-pub fn accept(alloc: Global, text: Text) -> Result<Accepted, AcceptError>
+pub fn accept(alloc: Global, text: Text) -> Result<Accepted, JudgeError>
     requires { IsTrue (is_formed text) }
     ensures { MatchResult result (λ accepted. (accepted ≡ text) × IsAccepted text) (IsRightError text) }
 {

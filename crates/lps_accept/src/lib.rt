@@ -7,10 +7,8 @@
 //! `accepted_texts_are_not_refused`, and that it is refused for one thing alone `refusals_are_unique`.
 #![tactic(auto)]
 
-mod error;
 mod judge;
 mod laws;
 
-pub use error::AcceptError;
 pub use judge::accept;
 pub use laws::{accepted_texts_are_not_refused, refusals_are_unique};

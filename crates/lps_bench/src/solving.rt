@@ -6,10 +6,10 @@ ghost use Rattle.lps_derivation.specs.Ground.{is_ground};
 ghost use Rattle.lps_facts.specs.Facts.{members};
 ghost use Rattle.lps_bench.specs.Goals.{HasGoal, IsGoal};
 
-use lps_accept::{AcceptError, accept};
+use lps_accept::accept;
 use lps_facts::Facts;
 use lps_formed::read_texts_are_formed;
-use lps_model::Accepted;
+use lps_model::{Accepted, JudgeError};
 use lps_reader::{ReadError, read_text};
 use lps_solve::{Program, above_conds, answers, are_ground};
 use lps_terms::{Atom, Body, Cond, Statement, Text, Values};
@@ -40,8 +40,8 @@ fn accepted_text(alloc: Global, bytes: &[u8]) -> Result<Option<Accepted>, AllocE
     match formed_text(alloc, bytes) {
         Ok(text) => match accept(alloc, text) {
             Ok(accepted) => Ok(Some(accepted)),
-            Err(AcceptError::NoMemory) => Err(AllocError),
-            Err(AcceptError::Refused(_)) => Ok(None),
+            Err(JudgeError::NoMemory) => Err(AllocError),
+            Err(JudgeError::Refused(_)) => Ok(None),
         },
         Err(ReadError::NoMemory) => Err(AllocError),
         Err(ReadError::Refused(_)) => Ok(None),

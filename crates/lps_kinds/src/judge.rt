@@ -4,12 +4,11 @@ ghost use Rattle.lps_model.specs.Occurrences.{occurrences as occurrences_of};
 ghost use Rattle.lps_model.specs.Program.{declarations};
 ghost use Rattle.lps_kinds.specs.Answer.{IsRightError};
 
-use crate::error::KindsError;
 use crate::fault::{Fault, first_refusal};
 use crate::occurrences::occurrences;
 use crate::statements::statement_refusal;
 use crate::twice::declared_twice;
-use lps_model::{Kinds, Occurrence};
+use lps_model::{JudgeError, Kinds, Occurrence};
 use lps_terms::{Refused, Text};
 use std::alloc::{AllocError, Global};
 
@@ -19,13 +18,13 @@ use std::alloc::{AllocError, Global};
 /// `Refused` comes exactly where the text is none such. The first of these that stands anywhere in the text is the reason, at
 /// the first statement where it stands, with the line of that statement and the leftmost such name in it: `Undeclared`,
 /// `DeclaredTwice`, `WrongArity`, `WrongKind`, `NotGround`, `NoEvent`. `NoMemory` comes where memory ran out.
-pub fn kinds(alloc: Global, text: &Text) -> Result<Kinds, KindsError>
+pub fn kinds(alloc: Global, text: &Text) -> Result<Kinds, JudgeError>
     ensures declarations { MatchResult result (λ kinds. kinds ≡ declarations text.now) (λ error. Unit {0}) }
     ensures refusal { MatchResult result (λ kinds. kind_refusal text.now ≡ None) (IsRightError text.now) }
 {
     let kinds = Kinds::of(alloc, text)?;
     match refusal(alloc, &kinds, text)? {
-        Some(refused) => Err(KindsError::Refused(refused)),
+        Some(refused) => Err(JudgeError::Refused(refused)),
         None => Ok(kinds),
     }
 }

@@ -16,7 +16,6 @@
 //! | `KindRefusals` | which kinds may stand at which place, each refusal, and which of them is the text's |
 #![tactic(auto)]
 
-mod error;
 mod fault;
 mod judge;
 mod names;
@@ -24,5 +23,4 @@ mod occurrences;
 mod statements;
 mod twice;
 
-pub use error::KindsError;
 pub use judge::kinds;

@@ -14,7 +14,7 @@ use Rattle.lps_model.specs.Calls.{Call, calls}
 use Rattle.lps_model.specs.Levels.{AreLevelsOf, IsLevel, level_among, level_or_none}
 use Rattle.lps_model.specs.Program.{declarations}
 use Rattle.lps_levels.specs.declared.edge.Edge.{Edge}
-use Rattle.lps_levels.specs.declared.error.LevelsError.{LevelsError}
+use Rattle.lps_model.specs.declared.judge_error.JudgeError.{JudgeError}
 use Rattle.lps_levels.specs.Answers.{AreInTable, AreInTableTo, IsNoMemory, IsRightError}
 use Rattle.lps_levels.specs.Distances.{AreRight}
 use Rattle.lps_levels.specs.Graphs.{AreApart, IsGraph, IsWithin, call_by, calls_by, is_lower, is_no_higher, name_at}
@@ -89,6 +89,6 @@ levels_of_text text names edges levels table called graph named right h = record
     at call found = subst (IsLevel (level_among table)) found.2 (of_edge found.0 found.1)
 
 -- what the table is, the answer is
-pub answer_of_table : (text : Text) (P : List (List ℕ × ℕ) → Type 0) (r : Result (List (List ℕ × ℕ)) LevelsError) → ((table : List (List ℕ × ℕ)) → P table → AreLevelsOf text table) → MatchResult r P IsNoMemory → MatchResult r (AreLevelsOf text) (IsRightError text)
+pub answer_of_table : (text : Text) (P : List (List ℕ × ℕ) → Type 0) (r : Result (List (List ℕ × ℕ)) JudgeError) → ((table : List (List ℕ × ℕ)) → P table → AreLevelsOf text table) → MatchResult r P IsNoMemory → MatchResult r (AreLevelsOf text) (IsRightError text)
 answer_of_table text P (Ok table) f h = f table h
 answer_of_table text P (Err error) f h = subst (IsRightError text) (sym h) tt

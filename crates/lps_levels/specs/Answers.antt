@@ -6,17 +6,17 @@ use Rattle.std.specs.Str.{bytes_eq}
 use Rattle.lps_terms.specs.declared.refused.Refused.TheVariants as r
 use Rattle.lps_terms.specs.declared.text.Text.{Text}
 use Rattle.lps_model.specs.Levels.{IsUnlevelled}
-use Rattle.lps_levels.specs.declared.error.LevelsError.{LevelsError}
-use Rattle.lps_levels.specs.declared.error.LevelsError.TheVariants.{NoMemory, Refused}
+use Rattle.lps_model.specs.declared.judge_error.JudgeError.{JudgeError}
+use Rattle.lps_model.specs.declared.judge_error.JudgeError.TheVariants.{NoMemory, Refused}
 use Rattle.lps_levels.specs.Graphs.{name_at}
 
 -- a refusal is for the cycle of the text; nothing is said where memory ran out
-abbrev pub IsRightError : Text → LevelsError → Type 0
+abbrev pub IsRightError : Text → JudgeError → Type 0
 IsRightError text NoMemory = Unit {0}
 IsRightError text (Refused (r.Unlevelled cycle)) = IsUnlevelled text cycle
 IsRightError text (Refused refused) = ⊥
 
-abbrev pub IsNoMemory : LevelsError → Type 0
+abbrev pub IsNoMemory : JudgeError → Type 0
 IsNoMemory error = error ≡ NoMemory
 
 -- a table has the first levels, each for its name

@@ -10,7 +10,7 @@ use lps_terms::{Atom, Mode, Term};
 pub fn descends(kinds: &Kinds, head: &Atom, atom: &Atom) -> bool
     ensures { result ≡ descends_of kinds.now head.now atom.now }
 {
-    are_nested(marked(kinds, atom), marked(kinds, head))
+    are_nested(starred_argument(kinds, atom), starred_argument(kinds, head))
 }
 
 fn are_nested(inner: Option<&Term>, outer: Option<&Term>) -> bool
@@ -26,7 +26,7 @@ fn are_nested(inner: Option<&Term>, outer: Option<&Term>) -> bool
 }
 
 /// The argument of an atom that the declaration of its name marks `*`.
-fn marked<'a>(kinds: &Kinds, atom: &'a Atom) -> Option<&'a Term>
+fn starred_argument<'a>(kinds: &Kinds, atom: &'a Atom) -> Option<&'a Term>
     ensures { option_copied result ≡ starred_of kinds.now atom.now }
 {
     match kinds.decl(&atom.name) {

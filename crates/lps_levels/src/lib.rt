@@ -10,7 +10,6 @@
 mod calls;
 mod distances;
 mod edge;
-mod error;
 mod guess;
 mod inside;
 mod judge;
@@ -20,6 +19,5 @@ mod names;
 mod text;
 mod way;
 
-pub use error::LevelsError;
 pub use laws::{cycles_are_unique, levelled_texts_have_no_cycle};
 pub use text::levels;

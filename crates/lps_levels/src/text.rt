@@ -6,10 +6,9 @@ ghost use Rattle.lps_levels.specs.Graphs.{AreApart};
 ghost use Rattle.lps_levels.specs.Answers.{AreInTable, IsNoMemory, IsRightError};
 
 use crate::calls::calls;
-use crate::error::LevelsError;
 use crate::judge::{Answer, judge};
 use crate::names::called_names;
-use lps_model::{Kinds, Levels};
+use lps_model::{JudgeError, Kinds, Levels};
 use lps_terms::{Name, Refused, Text};
 use sqlite_items::Items;
 use std::alloc::Global;
@@ -20,7 +19,7 @@ use std::alloc::Global;
 /// `Refused` comes exactly where there are no such levels. Its reason is `Unlevelled`, with the first strict call of the text
 /// that lies on a cycle: the name that calls, then the least way back from the name that is called, of the shortest ones the
 /// least in byte order. `NoMemory` comes where memory ran out, or where more than 2^32 names have levels.
-pub fn levels(alloc: Global, text: &Text, kinds: &Kinds) -> Result<Levels, LevelsError>
+pub fn levels(alloc: Global, text: &Text, kinds: &Kinds) -> Result<Levels, JudgeError>
     requires declared { kinds.now ≡ declarations text.now }
     requires placed { kind_refusal text.now ≡ None }
     ensures { MatchResult result (AreLevelsOf text.now) (IsRightError text.now) }
@@ -31,13 +30,13 @@ pub fn levels(alloc: Global, text: &Text, kinds: &Kinds) -> Result<Levels, Level
         Answer::Levelled(levels) => table(alloc, names.as_slice(), levels.as_slice()),
         Answer::Cyclic(cycle) => {
             let cycle = Items::from_vec(cycle);
-            Err(LevelsError::Refused(Refused::Unlevelled { cycle }))
+            Err(JudgeError::Refused(Refused::Unlevelled { cycle }))
         }
     }
 }
 
 /// The table of the levels of names.
-fn table(alloc: Global, names: &[Name], levels: &[usize]) -> Result<Levels, LevelsError>
+fn table(alloc: Global, names: &[Name], levels: &[usize]) -> Result<Levels, JudgeError>
     requires sized { length levels.now ≡ length names.now }
     requires apart { AreApart names.now }
     ensures { MatchResult result (AreInTable names.now levels.now) IsNoMemory }
@@ -45,7 +44,7 @@ fn table(alloc: Global, names: &[Name], levels: &[usize]) -> Result<Levels, Leve
     let mut table = Levels::new(alloc);
     for number in 0..names.len() {
         let Some(level) = fitting(levels[number]) else {
-            return Err(LevelsError::NoMemory);
+            return Err(JudgeError::NoMemory);
         };
         table.insert(alloc, &names[number], level)?;
     }

@@ -13,7 +13,6 @@
 
 mod known;
 mod laws;
-mod modes_error;
 mod needs;
 mod scope;
 mod sequences;
@@ -22,5 +21,4 @@ mod text;
 mod variables;
 
 pub use laws::{learning_is_union, none_is_unknown};
-pub use modes_error::ModesError;
 pub use text::modes;

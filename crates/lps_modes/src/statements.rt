@@ -253,7 +253,7 @@ fn open_sequence_unknown(
 }
 
 /// The name of the first unknown variable of a statement.
-pub fn statement_unknown(
+pub fn unknown_in_statement(
     alloc: Global,
     kinds: &Kinds,
     statement: &Statement,

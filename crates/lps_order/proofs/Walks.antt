@@ -8,7 +8,7 @@ use Rattle.lps_terms.specs.declared.item.Item.TheVariants as i
 use Rattle.lps_terms.specs.declared.kind.Kind.{Kind}
 use Rattle.lps_model.specs.Order.{Step, first_begin, follow, happens, has_head_times, has_step, is_event, is_ordered, is_ordered_after, is_time, last_end, last_end_after, may_begin, may_end, occurs, step_before, step_of, steps, times_in, times_of}
 use Rattle.lps_order.specs.declared.happening.Happening.{Happening}
-use Rattle.lps_order.specs.Walking.{are_joined, begins, end_with, ends_after, follows, happening_of, may_step, noted, noted_in, noted_of, noted_step, walks}
+use Rattle.lps_order.specs.Walking.{are_joined, begin_of, end_with, ends_after, follows, happening_of, may_step, noted, noted_in, noted_of, noted_step, walks}
 use Rattle.lps_order.proofs.Steps.{none_joins, steps_after, steps_after_none, steps_by_first}
 
 -- ---- times
@@ -75,7 +75,7 @@ walks_where_in_order kind (item ∷ rest) prior before xs ys h = by (are_joined 
 -- ---- the first begin and the last end
 
 -- the first item with times begins with the first step
-pub begins_where_steps : (kind : List ℕ → Option Kind) (items : List Item) → first_begin (steps kind items) ≡ begins items
+pub begins_where_steps : (kind : List ℕ → Option Kind) (items : List Item) → first_begin (steps kind items) ≡ begin_of items
 begins_where_steps kind [] = refl
 begins_where_steps kind (i.At lit time ∷ rest) = ap first_begin (steps_by_first kind (i.At lit time) rest)
 begins_where_steps kind (i.Span a from to ∷ rest) = ap first_begin (steps_by_first kind (i.Span a from to) rest)
@@ -88,7 +88,7 @@ has_first [] = refl
 has_first (step ∷ rest) = refl
 
 -- there is a step where an item has times
-pub has_step_where_begins : (kind : List ℕ → Option Kind) (items : List Item) → has_step (steps kind items) ≡ is_some (begins items)
+pub has_step_where_begins : (kind : List ℕ → Option Kind) (items : List Item) → has_step (steps kind items) ≡ is_some (begin_of items)
 has_step_where_begins kind items = has_first (steps kind items) ∙ ap is_some (begins_where_steps kind items)
 
 -- the step before ended when the event or action before did
@@ -141,8 +141,8 @@ pub ends_where_steps : (kind : List ℕ → Option Kind) (items : List Item) →
 ends_where_steps kind items = ap (last_end_after None) (sym (steps_after_none kind items)) ∙ ends_after_where_steps kind items None None tt
 
 -- a head has the times of its body
-pub has_head_times_where_read : (kind : List ℕ → Option Kind) (items : List Item) (begin end : ℕ) → has_head_times (steps kind items) begin end ≡ (is_time (begins items) begin && is_time (ends_after None items) end)
-has_head_times_where_read kind items begin end = ap (λ o. is_time o begin && is_time (last_end (steps kind items)) end) (begins_where_steps kind items) ∙ ap (λ o. is_time (begins items) begin && is_time o end) (ends_where_steps kind items)
+pub has_head_times_where_read : (kind : List ℕ → Option Kind) (items : List Item) (begin end : ℕ) → has_head_times (steps kind items) begin end ≡ (is_time (begin_of items) begin && is_time (ends_after None items) end)
+has_head_times_where_read kind items begin end = ap (λ o. is_time o begin && is_time (last_end (steps kind items)) end) (begins_where_steps kind items) ∙ ap (λ o. is_time (begin_of items) begin && is_time o end) (ends_where_steps kind items)
 
 -- ---- sequences
 

@@ -74,9 +74,9 @@ begin_before None later = later
 begin_before (Some step) later = Some step.begin
 
 -- when the first item with times begins
-abbrev pub begins : List Item → Option ℕ
-begins [] = None
-begins (item ∷ rest) = begin_before (step_of item) (begins rest)
+abbrev pub begin_of : List Item → Option ℕ
+begin_of [] = None
+begin_of (item ∷ rest) = begin_before (step_of item) (begin_of rest)
 
 -- when the last item with times ends, or else that which was before
 abbrev pub ends_after : Option ℕ → List Item → Option ℕ
@@ -85,4 +85,4 @@ ends_after before (item ∷ rest) = ends_after (end_with before (step_of item)) 
 
 -- items with a step, in order where these times have occurred and the step before ended then
 abbrev pub follows : (List ℕ → Option Kind) → List ℕ → Option ℕ → List Item → Bool
-follows kind occurred before items = is_some (begins items) && walks kind occurred before None items
+follows kind occurred before items = is_some (begin_of items) && walks kind occurred before None items

@@ -4,8 +4,7 @@ ghost use Rattle.lps_model.specs.Order.{first_line, has_bad_head_times, is_mixed
 ghost use Rattle.lps_order.specs.Answers.{IsRightError};
 
 use crate::body::{has_bad_head_times, is_mixed_somewhere, is_out_of_order};
-use crate::error::OrderError;
-use lps_model::Kinds;
+use lps_model::{JudgeError, Kinds};
 use lps_terms::{Refused, Statement, Text};
 use std::alloc::{AllocError, Global};
 
@@ -15,11 +14,11 @@ use std::alloc::{AllocError, Global};
 /// does: `OutOfOrder`, where a sequence or a denial breaks the order of times; `MixedGroup`, where a group of a consequent
 /// or a macro body has both an event and an action; `BadHeadTimes`, where the times of a macro clause are not the begin of
 /// its first step and the end of its last. `NoMemory` may come at any time and says nothing of the text.
-pub fn ordered(alloc: Global, text: &Text, kinds: &Kinds) -> Result<(), OrderError>
+pub fn ordered(alloc: Global, text: &Text, kinds: &Kinds) -> Result<(), JudgeError>
     ensures { MatchResult result (λ _. order_refusal (kind_among kinds.now) text.now.statements ≡ None) (IsRightError (kind_among kinds.now) text.now.statements) }
 {
     match refusal(alloc, text.statements.as_slice(), kinds)? {
-        Some(refused) => Err(OrderError::Refused(refused)),
+        Some(refused) => Err(JudgeError::Refused(refused)),
         None => Ok(()),
     }
 }

@@ -6,7 +6,7 @@ ghost use Rattle.lps_model.specs.Order.{has_bad_head_times, has_head_times, has_
 ghost use Rattle.lps_order.specs.Walking.{follows};
 
 use crate::denial::is_denial_ordered;
-use crate::sequence::{begins, ends, follows, has_mixed, is_ordered};
+use crate::sequence::{begin_of, end_of, follows, has_mixed, is_ordered};
 use crate::times::times_in;
 use crate::walk::is_time;
 use lps_model::Kinds;
@@ -56,7 +56,7 @@ fn is_rule_ordered(
     all_follow(
         alloc,
         occurred.as_slice(),
-        ends(antecedent),
+        end_of(antecedent),
         alternatives,
         kinds,
     )
@@ -121,5 +121,5 @@ pub(crate) fn has_bad_head_times(body: &Body, kinds: &Kinds) -> bool
 fn has_head_times(items: &[Item], kinds: &Kinds, begin: u32, end: u32) -> bool
     ensures { result ≡ has_head_times (steps (kind_among kinds.now) items.now) begin end }
 {
-    is_time(begins(items), begin) && is_time(ends(items), end)
+    is_time(begin_of(items), begin) && is_time(end_of(items), end)
 }

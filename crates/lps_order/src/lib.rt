@@ -8,11 +8,9 @@
 mod answer;
 mod body;
 mod denial;
-mod error;
 mod happening;
 mod sequence;
 mod times;
 mod walk;
 
 pub use answer::ordered;
-pub use error::OrderError;

@@ -2,7 +2,7 @@ ghost use Rattle.std.specs.Prelude.{◌≡◌, ◌&&◌, [], IfOk, None, is_some
 ghost use Rattle.lps_terms.specs.declared.item.Item.{Item as Piece};
 ghost use Rattle.lps_model.specs.Declarations.{kind_among};
 ghost use Rattle.lps_model.specs.Order.{has_mixed, is_ordered, step_of};
-ghost use Rattle.lps_order.specs.Walking.{begins, end_with, ends_after, follows, mixes};
+ghost use Rattle.lps_order.specs.Walking.{begin_of, end_with, ends_after, follows, mixes};
 
 use crate::happening::{are_mixed, happening_in};
 use crate::walk::Walk;
@@ -28,7 +28,7 @@ pub(crate) fn follows(
 ) -> Result<bool, AllocError>
     ensures { IfOk result (λ right. right ≡ follows (kind_among kinds.now) occurred.now before items.now) }
 {
-    if begins(items).is_none() {
+    if begin_of(items).is_none() {
         return Ok(false);
     }
     let mut walk = Walk {
@@ -40,8 +40,8 @@ pub(crate) fn follows(
 }
 
 /// When the first step begins.
-pub(crate) fn begins(items: &[Item]) -> Option<u32>
-    ensures { result ≡ begins items.now }
+pub(crate) fn begin_of(items: &[Item]) -> Option<u32>
+    ensures { result ≡ begin_of items.now }
 {
     for item in items {
         match item {
@@ -54,7 +54,7 @@ pub(crate) fn begins(items: &[Item]) -> Option<u32>
 }
 
 /// When the last step ends.
-pub(crate) fn ends(items: &[Item]) -> Option<u32>
+pub(crate) fn end_of(items: &[Item]) -> Option<u32>
     ensures { result ≡ ends_after None items.now }
 {
     let mut end = None;

@@ -11,9 +11,9 @@ use crate::built::not_built;
 use crate::loading::{LoadError, load};
 use crate::stream::run;
 use crate::words::{Command, command_of};
-use lps_accept::{AcceptError, accept};
+use lps_accept::accept;
 use lps_formed::read_texts_are_formed;
-use lps_model::Accepted;
+use lps_model::{Accepted, JudgeError};
 use lps_outside::{Desk, Source, Texts};
 use lps_reader::{ReadError, print_text, read_text};
 use lps_terms::{ReadRefused, Text, TextRefused};
@@ -37,8 +37,8 @@ fn accepted_text(alloc: Global, bytes: &[u8]) -> Result<Accepted, Answer>
     match formed_text(alloc, bytes) {
         Ok(text) => match accept(alloc, text) {
             Ok(accepted) => Ok(accepted),
-            Err(AcceptError::NoMemory) => Err(Answer::NoMemory),
-            Err(AcceptError::Refused(refused)) => Err(Answer::TextRefused(TextRefused::NotAccepted(
+            Err(JudgeError::NoMemory) => Err(Answer::NoMemory),
+            Err(JudgeError::Refused(refused)) => Err(Answer::TextRefused(TextRefused::NotAccepted(
                 refused,
             ))),
         },

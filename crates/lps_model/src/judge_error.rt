@@ -1,14 +1,14 @@
 ghost use Rattle.std.specs.Prelude.{◌≡◌};
-ghost use Rattle.lps_kinds.specs.declared.error.KindsError.TheVariants.{NoMemory};
+ghost use Rattle.lps_model.specs.declared.judge_error.JudgeError.TheVariants.{NoMemory};
 
 use lps_terms::Refused;
 use std::alloc::AllocError;
 use thiserror::Error;
 
-/// Why a text has no kinds.
+/// Why a judge of texts did not pass a text.
 #[derive(Debug, Drop, Error)]
-pub enum KindsError {
-    /// Memory ran out.
+pub enum JudgeError {
+    /// Memory ran out. It says nothing of the text.
     #[error("no memory")]
     NoMemory,
     /// The text is refused, for this reason.
@@ -16,10 +16,10 @@ pub enum KindsError {
     Refused(Refused),
 }
 
-impl From<AllocError> for KindsError {
+impl From<AllocError> for JudgeError {
     ghost from_gives = { λ _ error. error ≡ NoMemory };
 
-    fn from(_error: AllocError) -> KindsError {
-        KindsError::NoMemory
+    fn from(_error: AllocError) -> JudgeError {
+        JudgeError::NoMemory
     }
 }
