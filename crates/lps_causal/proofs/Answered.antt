@@ -17,7 +17,7 @@ use Rattle.lps_terms.specs.Put.{put, put_atom, put-Var}
 use Rattle.lps_terms.specs.Symbols.{symbols_of}
 use Rattle.lps_model.specs.Program.{Law}
 use Rattle.lps_model.specs.VariableLists.{atom_vars, cond_vars, term_vars}
-use Rattle.lps_derivation.specs.Clauses.{Clause}
+use Rattle.lps_model.specs.Clauses.{Clause}
 use Rattle.lps_derivation.specs.Ground.{is_ground}
 use Rattle.lps_derivation.specs.Instances.{IsSmall, put_cond}
 use Rattle.lps_meaning.proofs.Occurrences.{same_atom, same_built}

@@ -18,13 +18,13 @@ use Rattle.lps_model.specs.Acceptance.{IsAccepted}
 use Rattle.lps_model.specs.Formed.{is_formed, is_formed_atom, is_formed_body, is_formed_cond, is_formed_statement, is_formed_term}
 use Rattle.lps_model.specs.Program.{Law, laws}
 use Rattle.lps_model.proofs.Elements.{first_is_contained, first_or_later, later_is_contained, nothing_contained}
-use Rattle.lps_derivation.specs.Clauses.{clauses}
+use Rattle.lps_model.specs.Clauses.{clauses}
 use Rattle.lps_derivation.specs.Derivation.{IsMet}
 use Rattle.lps_derivation.specs.Ground.{is_ground}
 use Rattle.lps_derivation.specs.Instances.{IsSmall, IsSmallCond, put_cond}
 use Rattle.lps_derivation.specs.Laws.{Passes}
 use Rattle.lps_meaning.specs.Holds.{Causes, IsTrueOver, put_law}
-use Rattle.lps_meaning.specs.Rules.{kind_of}
+use Rattle.lps_model.specs.Rules.{kind_of}
 use Rattle.lps_meaning.proofs.Persistence.{agrees_same, turn}
 use Rattle.lps_solve.specs.Answers.{IsWritten}
 use Rattle.lps_solve.specs.Met.{AreGround, IsGroundCond, IsMetCond}

@@ -20,14 +20,14 @@ use Rattle.lps_model.specs.Order.{happens}
 use Rattle.lps_model.specs.Program.{Law, laws}
 use Rattle.lps_model.specs.Run.{AreInitial}
 use Rattle.lps_model.proofs.Elements.{first_is_contained, later_is_contained}
-use Rattle.lps_derivation.specs.Clauses.{clauses}
+use Rattle.lps_model.specs.Clauses.{clauses}
 use Rattle.lps_derivation.specs.Derivation.{IsMet, of_fact}
 use Rattle.lps_derivation.specs.Laws.{Passes, IsDerivedFrom}
 use Rattle.lps_derivation.specs.Levels.{AreClosed, IsDefined}
 use Rattle.lps_derivation.proofs.Reach.{same_reached}
 use Rattle.lps_derivation.proofs.Trees.{only_fact}
 use Rattle.lps_meaning.specs.Holds.{Causes, Holds, IsTrueOver}
-use Rattle.lps_meaning.specs.Rules.{kind_of}
+use Rattle.lps_model.specs.Rules.{kind_of}
 use Rattle.lps_meaning.proofs.Persistence.{agrees_same, start_law, update_law}
 use Rattle.lps_causal.specs.Names.{AreEvents, AreFluents}
 use Rattle.lps_causal.proofs.Placed.{condition_kind, event_kind, fluent_kind, head_kind, initial_kind, law_condition_kind}

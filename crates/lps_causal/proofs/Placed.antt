@@ -18,8 +18,8 @@ use Rattle.lps_model.specs.Occurrences.{in_atom, in_cond, in_conds, place_under}
 use Rattle.lps_model.specs.Program.{Law, initial_atoms, initial_in, law_in, laws}
 use Rattle.lps_model.proofs.Elements.{first_is_contained, nothing_contained}
 use Rattle.lps_model.proofs.Stated.{HasKindAt, IsStated, flat_contains, flat_within, kind_at, only_one}
-use Rattle.lps_derivation.specs.Clauses.{Clause, clause_in, clauses}
-use Rattle.lps_meaning.specs.Rules.{kind_of}
+use Rattle.lps_model.specs.Clauses.{Clause, clause_in, clauses}
+use Rattle.lps_model.specs.Rules.{kind_of}
 
 -- ---- statements
 

@@ -16,7 +16,7 @@ use Rattle.lps_model.specs.Acceptance.{IsAccepted}
 use Rattle.lps_model.specs.Formed.{is_formed}
 use Rattle.lps_model.specs.Program.{Law, laws}
 use Rattle.lps_model.proofs.Elements.{nothing_contained}
-use Rattle.lps_derivation.specs.Clauses.{clauses}
+use Rattle.lps_model.specs.Clauses.{clauses}
 use Rattle.lps_derivation.specs.Levels.{AreLevels}
 use Rattle.lps_meaning.specs.Holds.{Causes}
 use Rattle.lps_solve.specs.Met.{AreGround}

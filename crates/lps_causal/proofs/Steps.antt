@@ -15,7 +15,7 @@ use Rattle.lps_model.specs.Acceptance.{IsAccepted}
 use Rattle.lps_model.specs.Formed.{is_formed}
 use Rattle.lps_model.specs.Program.{Law, laws}
 use Rattle.lps_model.specs.VariableLists.{atom_vars, cond_vars}
-use Rattle.lps_derivation.specs.Clauses.{clauses}
+use Rattle.lps_model.specs.Clauses.{clauses}
 use Rattle.lps_derivation.specs.Levels.{AreLevels}
 use Rattle.lps_unify.specs.Bindings.{TrailedBindings, count_of}
 use Rattle.lps_solve.specs.Answers.{IsAnswer}

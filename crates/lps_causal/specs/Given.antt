@@ -5,7 +5,7 @@ use Rattle.lps_terms.specs.declared.term.Term.{Term}
 use Rattle.lps_terms.specs.Put.{put_atom}
 use Rattle.lps_terms.specs.Symbols.{atom_symbols_of}
 use Rattle.lps_model.specs.Program.{Law}
-use Rattle.lps_derivation.specs.Clauses.{Clause}
+use Rattle.lps_model.specs.Clauses.{Clause}
 use Rattle.lps_derivation.specs.Ground.{is_ground}
 use Rattle.lps_derivation.specs.Instances.{IsSmall}
 use Rattle.lps_derivation.specs.Levels.{AreLevels}

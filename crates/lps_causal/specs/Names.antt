@@ -4,7 +4,7 @@ use Rattle.lps_terms.specs.declared.atom.Atom.{Atom}
 use Rattle.lps_terms.specs.declared.kind.Kind.TheVariants as k
 use Rattle.lps_terms.specs.declared.text.Text.{Text}
 use Rattle.lps_model.specs.Order.{happens}
-use Rattle.lps_meaning.specs.Rules.{kind_of}
+use Rattle.lps_model.specs.Rules.{kind_of}
 use Rattle.lps_solve.specs.Met.{AreGround}
 
 -- a ground atom of a fluent

@@ -4,7 +4,7 @@ ghost use Rattle.std.specs.List.{filter};
 ghost use Rattle.lps_terms.specs.declared.atom.Atom.{Atom as Fluent};
 ghost use Rattle.lps_terms.specs.Order.{atom_cmp};
 ghost use Rattle.lps_model.specs.Program.{law_in, laws};
-ghost use Rattle.lps_derivation.specs.Clauses.{clauses};
+ghost use Rattle.lps_model.specs.Clauses.{clauses};
 ghost use Rattle.lps_derivation.specs.Levels.{AreLevels};
 ghost use Rattle.lps_facts.specs.Facts.{IsLater, members, with_facts};
 ghost use Rattle.lps_solve.specs.Met.{AreGround};

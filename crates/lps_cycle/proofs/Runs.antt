@@ -13,13 +13,13 @@ use Rattle.lps_model.specs.declared.verdict.Verdict.{Verdict}
 use Rattle.lps_model.specs.Run.{AreInitial, first_trace}
 use Rattle.lps_model.specs.Trace.{admitted, then_cycle}
 use Rattle.lps_model.proofs.Elements.{nothing_contained}
-use Rattle.lps_derivation.specs.Clauses.{clauses}
+use Rattle.lps_model.specs.Clauses.{clauses}
 use Rattle.lps_derivation.specs.Levels.{AreLevels}
 use Rattle.lps_meaning.specs.declared.goal.GoalKey.{GoalKey}
 use Rattle.lps_meaning.specs.Cycles.{AreGoals, AreJudged, IsLegal, IsOutside, key_cmp}
 use Rattle.lps_meaning.specs.Goals.{IsGoal}
 use Rattle.lps_meaning.specs.Plain.{IsPlain, ArePlain, IsPlainRun, last}
-use Rattle.lps_meaning.specs.Rules.{Rule, rules, numbered}
+use Rattle.lps_model.specs.Rules.{Rule, rules, numbered}
 use Rattle.lps_meaning.proofs.Persistence.{start_law, turn}
 use Rattle.lps_cycle.specs.Engine.{Stands, depth}
 

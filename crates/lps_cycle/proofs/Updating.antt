@@ -16,14 +16,14 @@ use Rattle.lps_model.specs.Order.{happens}
 use Rattle.lps_model.specs.Run.{IsExternal}
 use Rattle.lps_model.specs.Trace.{admitted, happens_in, if_admitted, then_cycle}
 use Rattle.lps_model.proofs.Elements.{first_or_later, nothing_contained}
-use Rattle.lps_derivation.specs.Clauses.{clauses}
+use Rattle.lps_model.specs.Clauses.{clauses}
 use Rattle.lps_derivation.specs.Ground.{is_ground}
 use Rattle.lps_derivation.specs.Levels.{AreLevels}
 use Rattle.lps_facts.specs.Facts.{TrailedSet, is_among, members, with_effects}
 use Rattle.lps_facts.proofs.Sequences.{members_with_effects}
 use Rattle.lps_meaning.specs.Cycles.{AreJudged, IsOutside, IsVerdict}
 use Rattle.lps_meaning.specs.Reports.{IsState}
-use Rattle.lps_meaning.specs.Rules.{kind_of, rules}
+use Rattle.lps_model.specs.Rules.{kind_of, rules}
 use Rattle.lps_causal.specs.Effects.{AreEffects}
 use Rattle.lps_causal.specs.Names.{AreEvents, AreFluents, IsEvent}
 use Rattle.lps_causal.proofs.States.{next_state}

@@ -8,7 +8,7 @@ use Rattle.lps_model.specs.declared.trace.Trace.{Trace}
 use Rattle.lps_model.specs.declared.verdict.Verdict.{Verdict}
 use Rattle.lps_model.specs.Run.{IsExternal}
 use Rattle.lps_model.specs.Trace.{admitted, happens_in, then_cycle}
-use Rattle.lps_derivation.specs.Clauses.{clauses}
+use Rattle.lps_model.specs.Clauses.{clauses}
 use Rattle.lps_derivation.specs.Ground.{is_ground}
 use Rattle.lps_derivation.specs.Levels.{AreLevels}
 use Rattle.lps_meaning.specs.Cycles.{AreJudged, IsVerdict}

@@ -4,11 +4,11 @@ use Rattle.lps_terms.specs.declared.atom.Atom.{Atom}
 use Rattle.lps_terms.specs.declared.prefer.Prefer.TheVariants.{Oldest}
 use Rattle.lps_terms.specs.declared.text.Text.{Text}
 use Rattle.lps_model.specs.declared.trace.Trace.{Trace}
-use Rattle.lps_derivation.specs.Clauses.{clauses}
+use Rattle.lps_model.specs.Clauses.{clauses}
 use Rattle.lps_derivation.specs.Levels.{AreLevels}
 use Rattle.lps_meaning.specs.Plain.{IsPlainRun}
 use Rattle.lps_meaning.specs.Reports.{IsState}
-use Rattle.lps_meaning.specs.Rules.{rules}
+use Rattle.lps_model.specs.Rules.{rules}
 
 -- what an engine is seen as: its text, the facts of its last state, and how many cycles it has made
 pub record EngineState : Type 0 where

@@ -6,7 +6,7 @@ ghost use Rattle.lps_model.specs.Program.{initial_in, initial_atoms};
 ghost use Rattle.lps_model.specs.Run.{first_trace};
 ghost use Rattle.lps_model.specs.Trace.{then_cycle};
 ghost use Rattle.lps_facts.specs.Facts.{members, with_facts};
-ghost use Rattle.lps_meaning.specs.Rules.{rules};
+ghost use Rattle.lps_model.specs.Rules.{rules};
 ghost use Rattle.lps_cycle.specs.Admission.{MayCome};
 ghost use Rattle.lps_cycle.specs.Engine.{Stands};
 
@@ -39,7 +39,7 @@ impl Model for Engine {
     ghost coded = { Prim.hlevel (codes, term.the_row.coded, expr.the_row.coded) };
 
     ghost use Rattle.lps_facts.specs.Facts.{members};
-    ghost use Rattle.lps_meaning.specs.Rules.{rules};
+    ghost use Rattle.lps_model.specs.Rules.{rules};
     ghost use Rattle.lps_causal.specs.Names.{AreFluents};
 
     ghost view = { λ it. record { text = it.theory; facts = members it.facts; cycles = it.cycles } };

@@ -1,5 +1,5 @@
 ghost use Rattle.std.specs.Prelude.{◌≡◌, ℕ, List, IfOk, OnErr, OnOk};
-ghost use Rattle.lps_derivation.specs.Clauses.{clauses};
+ghost use Rattle.lps_model.specs.Clauses.{clauses};
 ghost use Rattle.lps_derivation.specs.Levels.{AreLevels};
 ghost use Rattle.lps_facts.specs.Facts.{members};
 ghost use Rattle.lps_causal.specs.Effects.{AreEffects};

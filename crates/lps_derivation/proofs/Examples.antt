@@ -12,7 +12,7 @@ use Rattle.lps_terms.specs.Names.{is_proper_name, reserved}
 use Rattle.lps_terms.specs.Put.{put-Var}
 use Rattle.lps_terms.specs.Symbols.{symbols_of, symbols_of_all, symbols_of_all-cons, symbols_of-Sym}
 use Rattle.lps_model.proofs.Elements.{first_or_later, nothing_contained}
-use Rattle.lps_derivation.specs.Clauses.{Clause}
+use Rattle.lps_model.specs.Clauses.{Clause}
 use Rattle.lps_derivation.specs.Ground.{is_ground, is_ground-Sym}
 use Rattle.lps_derivation.specs.Instances.{put_clause, IsInstance}
 use Rattle.lps_derivation.specs.Levels.{IsUnder, AreLevels}

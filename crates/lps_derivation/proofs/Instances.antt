@@ -8,7 +8,7 @@ use Rattle.lps_terms.specs.declared.cond.Cond.TheVariants as c
 use Rattle.lps_terms.specs.declared.lit.Lit.{Lit}
 use Rattle.lps_terms.specs.declared.term.Term.{Term}
 use Rattle.lps_model.proofs.Elements.{first_is_contained, later_is_contained}
-use Rattle.lps_derivation.specs.Clauses.{Clause}
+use Rattle.lps_model.specs.Clauses.{Clause}
 use Rattle.lps_derivation.specs.Instances.{IsInstance, put_cond, put_lit}
 use Rattle.lps_derivation.specs.Levels.{IsDefined}
 

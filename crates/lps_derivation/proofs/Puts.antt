@@ -13,7 +13,7 @@ use Rattle.lps_terms.specs.declared.term.Term.{Term}
 use Rattle.lps_terms.specs.declared.term.Term.TheVariants as t
 use Rattle.lps_terms.specs.Forms.{term_ind}
 use Rattle.lps_terms.specs.Put.{put, put_atom, after, put-Int, put-Sym, put-App, put-put, put_atom-put_atom}
-use Rattle.lps_derivation.specs.Clauses.{Clause}
+use Rattle.lps_model.specs.Clauses.{Clause}
 use Rattle.lps_derivation.specs.Expressions.{put_expr, put_expr-Leaf, put_expr-Apply, expr_ind}
 use Rattle.lps_derivation.specs.Ground.{is_ground, is_ground-App, is_ground-Var}
 use Rattle.lps_derivation.specs.Instances.{put_built, put_cond, put_clause}

@@ -7,7 +7,7 @@ use Rattle.lps_terms.specs.declared.built.Built.{Built}
 use Rattle.lps_terms.specs.declared.cond.Cond.{Cond}
 use Rattle.lps_terms.specs.declared.lit.Lit.{Lit}
 use Rattle.lps_terms.specs.declared.term.Term.{Term}
-use Rattle.lps_derivation.specs.Clauses.{Clause}
+use Rattle.lps_model.specs.Clauses.{Clause}
 use Rattle.lps_derivation.specs.Instances.{IsInstance, put_lit}
 use Rattle.lps_derivation.specs.Levels.{AreClosed}
 use Rattle.lps_derivation.specs.Derivation.{Tree, Trees, of_fact, of_clause, done, positive, negative, built, IsTrueBelow, IsDerived}

@@ -6,7 +6,7 @@ use Rattle.lps_terms.specs.declared.built.Built.{Built}
 use Rattle.lps_terms.specs.declared.cond.Cond.{Cond}
 use Rattle.lps_terms.specs.declared.lit.Lit.{Lit}
 use Rattle.lps_terms.specs.declared.term.Term.{Term}
-use Rattle.lps_derivation.specs.Clauses.{Clause}
+use Rattle.lps_model.specs.Clauses.{Clause}
 use Rattle.lps_derivation.specs.Instances.{IsInstance, put_lit}
 use Rattle.lps_derivation.proofs.Instances.{head_name, head_is_defined, OnLiteral, instance_each}
 use Rattle.lps_derivation.specs.Levels.{IsDefined, IsUnder, AreLevels}

@@ -8,7 +8,7 @@ use Rattle.lps_terms.specs.declared.cond.Cond.{Cond}
 use Rattle.lps_terms.specs.declared.cond.Cond.TheVariants as c
 use Rattle.lps_terms.specs.declared.lit.Lit.{Lit}
 use Rattle.lps_terms.specs.Symbols.{atom_symbols_of}
-use Rattle.lps_derivation.specs.Clauses.{Clause}
+use Rattle.lps_model.specs.Clauses.{Clause}
 use Rattle.lps_derivation.specs.Levels.{IsDefined, AreLevels}
 use Rattle.lps_derivation.specs.Derivation.{Agrees, Tree, Trees, of_fact, of_clause, done, positive, negative, built, IsTrueBelow, IsDerived, IsMet, Follows}
 use Rattle.lps_derivation.proofs.Instances.{head_is_defined}

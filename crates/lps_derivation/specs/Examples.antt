@@ -10,7 +10,7 @@ use Rattle.lps_terms.specs.declared.cond.Cond.TheVariants as c
 use Rattle.lps_terms.specs.declared.term.Term.{Term}
 use Rattle.lps_terms.specs.declared.term.Term.TheVariants as t
 use Rattle.lps_terms.specs.Names.{name_eq}
-use Rattle.lps_derivation.specs.Clauses.{Clause}
+use Rattle.lps_model.specs.Clauses.{Clause}
 use Rattle.lps_derivation.specs.Laws.{IsDerivedFrom}
 use Rattle.lps_derivation.specs.Levels.{AreLevels}
 

@@ -9,7 +9,7 @@ use Rattle.lps_terms.specs.declared.lit.Lit.{Lit}
 use Rattle.lps_terms.specs.declared.term.Term.{Term}
 use Rattle.lps_terms.specs.Put.{put, put_atom}
 use Rattle.lps_terms.specs.Symbols.{symbols_of, atom_symbols_of}
-use Rattle.lps_derivation.specs.Clauses.{Clause}
+use Rattle.lps_model.specs.Clauses.{Clause}
 use Rattle.lps_derivation.specs.Expressions.{put_expr, expr_symbols_of}
 use Rattle.lps_derivation.specs.Ground.{is_ground}
 

@@ -3,7 +3,7 @@ use Rattle.std.specs.Prelude.{ℕ, Bool, ◌≤◌, ◌↔◌, ◌⊎◌, IsTrue
 use Rattle.lps_terms.specs.declared.atom.Atom.{Atom}
 use Rattle.lps_terms.specs.declared.built.Built.{Built}
 use Rattle.lps_terms.specs.Symbols.{atom_symbols_of}
-use Rattle.lps_derivation.specs.Clauses.{Clause}
+use Rattle.lps_model.specs.Clauses.{Clause}
 use Rattle.lps_derivation.specs.Derivation.{IsDerived, Follows}
 use Rattle.lps_derivation.specs.Levels.{AreLevels, AreClosed}
 

@@ -3,7 +3,7 @@
 use Rattle.std.specs.Prelude.{ℕ, Bool, true, IsTrue, ◌≡◌, ◌≤◌, ◌<◌, List, Contains}
 use Rattle.lps_terms.specs.declared.cond.Cond.TheVariants as c
 use Rattle.lps_terms.specs.declared.lit.Lit.{Lit}
-use Rattle.lps_derivation.specs.Clauses.{Clause}
+use Rattle.lps_model.specs.Clauses.{Clause}
 
 -- some clause has the name in its head, so that a literal of this name is a call
 pub record IsDefined (clauses : List Clause) (name : List ℕ) : Type 0 where

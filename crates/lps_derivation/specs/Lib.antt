@@ -1,4 +1,3 @@
-pub mod Clauses
 pub mod Expressions
 pub mod Ground
 pub mod Instances

@@ -11,16 +11,17 @@ ghost use Rattle.lps_terms.specs.declared.term.Term.TheVariants.{App, Int, Sym, 
 ghost use Rattle.lps_terms.specs.Names.{is_proper_name};
 ghost use Rattle.lps_terms.specs.Put.{after, put, put_atom};
 ghost use Rattle.lps_terms.specs.Symbols.{symbols_of};
-ghost use Rattle.lps_derivation.specs.Clauses.{Clause};
+ghost use Rattle.lps_model.specs.Clauses.{Clause};
 ghost use Rattle.lps_derivation.specs.Expressions.{expr_symbols_of, put_expr};
-ghost use Rattle.lps_derivation.specs.Ground.{is_ground, is_in_range};
+ghost use Rattle.lps_derivation.specs.Ground.{is_ground};
+ghost use Rattle.lps_model.specs.Formed.{is_word};
 ghost use Rattle.lps_derivation.specs.Instances.{put_clause};
 ghost use Rattle.lps_derivation.specs.Laws.{DerivedIsSmall, LevelsDoNotMatter, OtherFactsDoNotMatter, TruthIsByClauses};
 ghost use Rattle.lps_derivation.specs.Examples.{ExampleHasLevels, OneAnswer};
 
 /// Which terms are ground, by their form, and that putting terms in leaves them as they are.
 pub fn ground_law()
-    ensures integers { (z : ℤ) → is_ground (Int z) ≡ is_in_range z }
+    ensures integers { (z : ℤ) → is_ground (Int z) ≡ is_word z }
     ensures constants { (n : List ℕ) → is_ground (Sym n) ≡ is_proper_name n }
     ensures functions { (n : List ℕ) (ts : List Term) → is_ground (App n ts) ≡ (is_proper_name n && nat_lt 0 (length ts) && nat_le (length ts) 64 && list_all is_ground ts) }
     ensures variables { (v : ℕ) → is_ground (Var v) ≡ false }

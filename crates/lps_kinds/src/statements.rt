@@ -1,9 +1,10 @@
 //! The refusals that are about whole statements.
 ghost use Rattle.std.specs.Prelude.{◌≡◌};
 ghost use Rattle.lps_model.specs.KindRefusals.{has_no_event as has_no_event_of, has_span as has_span_of, is_not_ground as is_not_ground_of, is_span as is_span_of, no_event as no_event_of, not_ground as not_ground_of, statement_refusal as statement_refusal_of};
-ghost use Rattle.lps_model.specs.Variables.{has_variable as has_variable_of, have_variables as have_variables_of, hold_variables as hold_variables_of};
+ghost use Rattle.lps_model.specs.Variables.{hold_variables as hold_variables_of};
 
-use lps_terms::{Atom, Body, Item, Refused, Statement, Term};
+use lps_model::have_variables;
+use lps_terms::{Atom, Body, Item, Refused, Statement};
 
 /// The refusal of the first statement whose facts of the start hold a variable, or else of the first denial without an
 /// event.
@@ -85,30 +86,6 @@ fn hold_variables(atoms: &[Atom]) -> bool
 {
     for atom in atoms {
         if have_variables(atom.args.as_slice()) {
-            return true;
-        }
-    }
-    false
-}
-
-#[cycle(variables)]
-fn has_variable(term: &Term) -> bool
-    ensures { result ≡ has_variable_of term.now }
-{
-    match term {
-        Term::Int(_) => false,
-        Term::Sym(_) => false,
-        Term::App(_, args) => have_variables(args.as_slice()),
-        Term::Var(_) => true,
-    }
-}
-
-#[cycle(variables)]
-fn have_variables(args: &[Term]) -> bool
-    ensures { result ≡ have_variables_of args.now }
-{
-    for arg in args {
-        if has_variable(arg) {
             return true;
         }
     }

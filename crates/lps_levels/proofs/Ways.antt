@@ -10,7 +10,7 @@ use Rattle.std.proofs.lemmas.List.Elements.{Contains-append_right}
 use Rattle.lps_terms.specs.Names.{name_cmp}
 use Rattle.lps_terms.specs.OrderLaws.{name_cmp_total, name_cmp-IsAntisymmetric}
 use Rattle.lps_model.specs.Calls.{Call}
-use Rattle.lps_model.specs.Levels.{AreLevels, IsLeastWay, IsWay}
+use Rattle.lps_model.specs.Levels.{AreCallLevels, IsLeastWay, IsWay}
 use Rattle.lps_levels.specs.Laws.{CyclesAreUnique, LevelsExcludeCycles}
 
 -- ---- elements
@@ -30,7 +30,7 @@ first_or_later x xs y c = at_place x xs y c.0 c.1 c.2
 
 -- ---- levels
 
-way_never_rises : (calls : List Call) (level : List ℕ → ℕ) → AreLevels calls level → (way : List (List ℕ)) (start end : List ℕ) → IsWay calls start end way → level end ≤ level start
+way_never_rises : (calls : List Call) (level : List ℕ → ℕ) → AreCallLevels calls level → (way : List (List ℕ)) (start end : List ℕ) → IsWay calls start end way → level end ≤ level start
 way_never_rises calls level are [] start end w = omega (arith, ap level w)
 way_never_rises calls level are (name ∷ names) start end w =
     let called = w.1.1 in

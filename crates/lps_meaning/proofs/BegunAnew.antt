@@ -13,7 +13,7 @@ use Rattle.lps_meaning.specs.Examples.{from_to, at_time, event_e, fluent_p, acti
 use Rattle.lps_meaning.specs.Goals.{Reaches, IsMetWithin, IsLive, IsPending, shared_values}
 use Rattle.lps_meaning.specs.Holds.{Holds, IsTrueAt}
 use Rattle.lps_meaning.specs.Items.{IsSmallItem, put_item}
-use Rattle.lps_meaning.specs.Rules.{Rule, numbered}
+use Rattle.lps_model.specs.Rules.{Rule, numbered}
 use Rattle.lps_meaning.specs.Sequences.{Entry, Place, Times, Walk, stop, pass, passed, IsSmallSoFar, start, done}
 use Rattle.lps_meaning.proofs.ExampleWalks.{not_empty, other_letter, only_one, constants, constants_ground, stops_or_passes, some_of, only_numbered, small_atom, one_sorted}
 use Rattle.lps_meaning.proofs.Persistence.{start_law, update_law}

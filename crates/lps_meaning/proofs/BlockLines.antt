@@ -19,7 +19,7 @@ use Rattle.lps_meaning.specs.declared.goal.GoalKey.{GoalKey}
 use Rattle.lps_meaning.specs.declared.goal.NewGoal.{NewGoal}
 use Rattle.lps_meaning.specs.Goals.{shared_values}
 use Rattle.lps_meaning.specs.Reports.{Block, block_text, closed_line, closed_word, goal_line, IsBlockOf, IsGroundAtom, IsGroundBlock, IsGroundGoal, with_values}
-use Rattle.lps_meaning.specs.Rules.{numbered, Rule, rules}
+use Rattle.lps_model.specs.Rules.{numbered, Rule, rules}
 use Rattle.lps_meaning.proofs.AtomTexts.{all_told, atom_told, is_inner, IsGroundTerm, IsTold, same_counted, same_led, stops_digit, term_told}
 use Rattle.lps_meaning.proofs.BlockTexts.{block_end, same_cycle}
 use Rattle.lps_meaning.proofs.Numbers.{numbered_one}

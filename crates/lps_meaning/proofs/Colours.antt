@@ -13,7 +13,7 @@ use Rattle.lps_terms.specs.declared.time_var.TimeVar.{TimeVar}
 use Rattle.lps_model.specs.declared.trace.Trace.{Trace}
 use Rattle.lps_model.specs.Order.{happens, are_grouped}
 use Rattle.lps_meaning.specs.Goals.{AreGround}
-use Rattle.lps_meaning.specs.Rules.{MacroClause, clauses_of, is_macro, kind_of, numbered}
+use Rattle.lps_model.specs.Rules.{MacroClause, clauses_of, is_macro, kind_of, numbered}
 use Rattle.lps_meaning.specs.Sequences.{Entry, Link, Place, Values, Times, Walk, stop, pass, replace, entries, joins_to, is_call, passed, replaced, link_at}
 use Rattle.lps_meaning.specs.Shapes.{Sequence}
 use Rattle.lps_meaning.proofs.ConditionLaws.{macro_is_no_happening}

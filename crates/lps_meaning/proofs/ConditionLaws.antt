@@ -20,7 +20,7 @@ use Rattle.lps_meaning.specs.declared.when.When.{When}
 use Rattle.lps_meaning.specs.declared.when.When.TheVariants.{Known, Unknown}
 use Rattle.lps_meaning.specs.Conditions.{time_in, is_same_time, goes_on, AreLeftInOrder, IsLeftAhead, ShowsGroup, ShowGroups, last_or}
 use Rattle.lps_meaning.specs.Items.{put_item}
-use Rattle.lps_meaning.specs.Rules.{is_macro, kind_of}
+use Rattle.lps_model.specs.Rules.{is_macro, kind_of}
 use Rattle.lps_meaning.specs.Sequences.{Entry, Place, Values, Times, Walk, stop, pass, replace, entries, joins_to, IsSpanPlaced, IsPlaced, AreInOrder, end_of, IsTrueItem, is_call, is_step, IsAhead, HasSameValues, HasSameTimes}
 use Rattle.lps_meaning.specs.Shapes.{Whens, left_of, left_at}
 

@@ -3,7 +3,7 @@ use Rattle.std.proofs.Common.{ℕ, ◌≤◌, arith}
 use Rattle.std.specs.Prelude.{Some}
 use Rattle.lps_meaning.specs.declared.goal.Closed.TheVariants as c
 use Rattle.lps_meaning.specs.Laws.{StatusStays, FailedIsForever, CutIsForever}
-use Rattle.lps_meaning.specs.Rules.{AreFramed}
+use Rattle.lps_meaning.specs.Frames.{AreFramed}
 use Rattle.lps_meaning.proofs.Prefixes.{same_now, status_same}
 use Rattle.lps_meaning.proofs.Statuses.{stays, failed_forever, cut_forever}
 

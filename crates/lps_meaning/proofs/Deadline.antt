@@ -11,7 +11,7 @@ use Rattle.lps_meaning.specs.declared.goal.Closed.TheVariants as c
 use Rattle.lps_meaning.specs.Examples.{from_to, at_most, event_e, action_a, deadline_text, deadline_trace, deadline_key}
 use Rattle.lps_meaning.specs.Goals.{IsGoal, Reaches, IsMetWithin, HasLive, HasMetCut, IsPending, IsClosed, shared_values, shared_times}
 use Rattle.lps_meaning.specs.Items.{IsSmallItem, put_item}
-use Rattle.lps_meaning.specs.Rules.{Rule, numbered}
+use Rattle.lps_model.specs.Rules.{Rule, numbered}
 use Rattle.lps_meaning.specs.Sequences.{Entry, Place, Walk, stop, pass, AreLimits, AreInOrder, IsAhead, IsSmallSoFar, start, is_call}
 use Rattle.lps_meaning.proofs.ExampleWalks.{first_same, not_empty, other_letter, only_one, constants, constants_ground, stops_or_passes, some_of, only_numbered, small_atom}
 

@@ -6,7 +6,7 @@ use Rattle.lps_meaning.specs.declared.goal.Closed.TheVariants as c
 use Rattle.lps_meaning.specs.Examples.{from_to, event_e, action_a, call_m, depth_text, depth_trace, depth_key}
 use Rattle.lps_meaning.specs.Goals.{Reaches, IsMetWithin, HasLive, IsLive, IsCut, IsPending, IsClosed, shared_values, shared_times}
 use Rattle.lps_meaning.specs.Items.{IsSmallItem, put_item}
-use Rattle.lps_meaning.specs.Rules.{Rule, MacroClause, numbered}
+use Rattle.lps_model.specs.Rules.{Rule, MacroClause, numbered}
 use Rattle.lps_meaning.specs.Sequences.{Entry, Place, Values, Times, Walk, stop, pass, replace, passed, replaced, link_at, IsSmallSoFar, IsAhead, IsWithin, HasSameTimes, start, is_call}
 use Rattle.lps_meaning.proofs.ExampleWalks.{first_same, not_empty, constants, constants_ground, stops_or_passes, stops_or_replaces, some_of, only_numbered, small_atom}
 use Rattle.lps_meaning.proofs.Splits.{within_back}

@@ -17,7 +17,7 @@ use Rattle.lps_model.proofs.Elements.{first_or_later, nothing_contained}
 use Rattle.lps_derivation.specs.Ground.{is_ground-Sym}
 use Rattle.lps_meaning.specs.Items.{put_item, IsSmallItem}
 use Rattle.lps_meaning.specs.Goals.{AreGround}
-use Rattle.lps_meaning.specs.Rules.{MacroClause, numbered, clauses_of, is_macro, kind_of}
+use Rattle.lps_model.specs.Rules.{MacroClause, numbered, clauses_of, is_macro, kind_of}
 use Rattle.lps_meaning.specs.Sequences.{Entry, Place, Values, Times, Walk, stop, pass, replace, passed, replaced, link_at, IsTrueItem, IsPlaced, HasSameValues, HasSameTimes, is_call}
 
 -- ---- lists and atoms

@@ -16,7 +16,7 @@ use Rattle.lps_meaning.specs.declared.node.LeftItem.{LeftItem}
 use Rattle.lps_meaning.specs.declared.node.LeftItem.TheVariants as l
 use Rattle.lps_meaning.specs.declared.when.When.{When}
 use Rattle.lps_meaning.specs.declared.when.When.TheVariants.{Known, Unknown}
-use Rattle.lps_meaning.specs.Rules.{MacroClause}
+use Rattle.lps_model.specs.Rules.{MacroClause}
 use Rattle.lps_meaning.specs.Sequences.{entries}
 use Rattle.lps_meaning.specs.Shapes.{Shape, put_when, put_left_item, put_left, put_left_con, put_shape, left_of, con_of, left_vars, left_unknowns}
 use Rattle.lps_meaning.specs.Steps.{in_front, PassesTo, Unfolds, UnfoldsTo}

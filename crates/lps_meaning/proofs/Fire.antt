@@ -14,7 +14,7 @@ use Rattle.lps_meaning.specs.Cycles.{key_cmp, AreGoals}
 use Rattle.lps_meaning.specs.Examples.{from_to, at_time, fluent_fire, event_spark, action_eliminate, fire_text, fire_trace, fire_key}
 use Rattle.lps_meaning.specs.Goals.{IsGoal, HasInstance, IsMetWithin, HasLive, IsPending, IsClosed, shared_values}
 use Rattle.lps_meaning.specs.Holds.{Holds, Initiated}
-use Rattle.lps_meaning.specs.Rules.{Rule, numbered}
+use Rattle.lps_model.specs.Rules.{Rule, numbered}
 use Rattle.lps_meaning.specs.Sequences.{Entry, Place, Walk, stop, pass, passed, start}
 use Rattle.lps_meaning.proofs.ExampleWalks.{not_empty, other_letter, only_one, constants, constants_ground, stops_or_passes, stops, some_of, only_numbered, small_atom, one_sorted}
 use Rattle.lps_meaning.proofs.Persistence.{start_law, update_law}

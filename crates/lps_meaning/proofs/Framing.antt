@@ -13,11 +13,11 @@ use Rattle.lps_terms.specs.declared.kind.Kind.{Kind}
 use Rattle.lps_terms.specs.declared.statement.Statement.{Statement}
 use Rattle.lps_terms.specs.declared.time_var.TimeVar.{TimeVar}
 use Rattle.lps_terms.specs.Names.{name_eq}
-use Rattle.lps_model.specs.Order.{happens, are_grouped, joins, with_first, parts, steps_in, steps, last_end_after, last_end, is_time, has_bad_head_times, is_out_of_order, is_mixed_somewhere, first_line, refusal_at}
-use Rattle.lps_model.specs.Order.{first_begin as step_begin}
+use Rattle.lps_model.specs.Order.{happens, are_grouped, joins, with_first, parts, steps_in, steps, last_end_after, last_end, is_time, has_bad_head_times, is_out_of_order, is_mixed_somewhere, first_line, refusal_at, first_begin as step_begin}
 use Rattle.lps_model.proofs.Stated.{no_order_refused}
 use Rattle.lps_meaning.specs.Laws.{AcceptedAreFramed}
-use Rattle.lps_meaning.specs.Rules.{MacroClause, IsFramed, first_begin, last_end_or, macro_clause_in, macro_clauses, clauses_of, numbered, kind_of}
+use Rattle.lps_model.specs.Rules.{MacroClause, macro_clause_in, macro_clauses, clauses_of, numbered, kind_of}
+use Rattle.lps_meaning.specs.Frames.{IsFramed, first_begin, last_end_or}
 
 false_true : false ≡ true → ⊥
 false_true e = cc

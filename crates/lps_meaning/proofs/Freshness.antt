@@ -8,7 +8,7 @@ use Rattle.lps_terms.specs.declared.item.Item.{Item}
 use Rattle.lps_terms.specs.declared.item.Item.TheVariants as i
 use Rattle.lps_terms.specs.declared.text.Text.{Text}
 use Rattle.lps_model.specs.Order.{happens, are_grouped, joins, with_first, parts, Step, step_of, step_before, steps_in, steps, occurs, may_begin, may_end, follow}
-use Rattle.lps_meaning.specs.Rules.{kind_of}
+use Rattle.lps_model.specs.Rules.{kind_of}
 use Rattle.lps_meaning.specs.Sequences.{joins_to}
 use Rattle.lps_meaning.proofs.Occurrences.{all_front, all_behind, all_joined}
 

@@ -19,7 +19,8 @@ use Rattle.lps_meaning.specs.Cycles.{AreLegal, IsRun}
 use Rattle.lps_meaning.specs.Goals.{IsGoal, distinct, item_times, shared_times, shared_values}
 use Rattle.lps_meaning.specs.Laws.{IsGroundReport, IsSmallReport}
 use Rattle.lps_meaning.specs.Reports.{IsGroundCycle, IsGroundGoal}
-use Rattle.lps_meaning.specs.Rules.{AreFramed, first_begin, is_macro, kind_of, last_end_or, rules}
+use Rattle.lps_model.specs.Rules.{is_macro, kind_of, rules}
+use Rattle.lps_meaning.specs.Frames.{AreFramed, first_begin, last_end_or}
 use Rattle.lps_meaning.specs.Sequences.{Entry, IsSpanPlaced, Place, Times, Values, Walk, entries}
 use Rattle.lps_meaning.proofs.BlockLines.{number_contained}
 use Rattle.lps_meaning.proofs.BlockTexts.{legal_paired}

@@ -28,13 +28,13 @@ use Rattle.lps_model.specs.Declarations.{decl_among, kind_among, kind_in}
 use Rattle.lps_model.specs.Formed.{fits_modes, has_modes, is_formed, is_formed_atom, is_formed_body, is_formed_decl, is_formed_item, is_formed_statement, is_formed_term, is_formed-App, is_formed-Int, is_formed-Sym, is_word, stars_once}
 use Rattle.lps_model.specs.Program.{declarations, declared_in}
 use Rattle.lps_model.specs.Trace.{admitted, then_cycle}
-use Rattle.lps_derivation.specs.Ground.{is_ground, is_in_range, is_ground-App, is_ground-Int, is_ground-Sym}
+use Rattle.lps_derivation.specs.Ground.{is_ground, is_ground-App, is_ground-Int, is_ground-Sym}
 use Rattle.lps_model.proofs.Elements.{first_is_contained, later_is_contained}
 use Rattle.lps_meaning.specs.declared.goal.GoalKey.{GoalKey}
 use Rattle.lps_meaning.specs.Cycles.{AreLegal, ArePicks, IsOutside, IsProposal, IsRun, joined, joined_item}
 use Rattle.lps_meaning.specs.Goals.{AreGround}
 use Rattle.lps_meaning.specs.Reports.{IsGroundAtom, IsGroundCycle, IsGroundPick, IsSmallCycle}
-use Rattle.lps_meaning.specs.Rules.{clauses_of, MacroClause, macro_clause_in, macro_clauses, numbered, Rule, rule_in, rules}
+use Rattle.lps_model.specs.Rules.{clauses_of, MacroClause, macro_clause_in, macro_clauses, numbered, Rule, rule_in, rules}
 use Rattle.lps_meaning.specs.Sequences.{entries, Entry, Place, Times, Values, Walk}
 use Rattle.lps_meaning.proofs.Occurrences.{all_joined}
 use Rattle.lps_meaning.proofs.BlockLines.{number_contained}
@@ -62,7 +62,7 @@ of_flat P Q f each (x ∷ xs) h = all_joined Q (f x) (flat_map f xs) (each x h.0
 
 -- ---- terms and atoms
 
-pub word_range : (z : ℤ) → is_word z ≡ is_in_range z
+pub word_range : (z : ℤ) → is_word z ≡ is_word z
 word_range (pos n) = refl
 word_range (negsuc n) = refl
 

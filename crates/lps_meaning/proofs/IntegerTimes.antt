@@ -16,7 +16,7 @@ use Rattle.lps_meaning.specs.declared.when.When.{When}
 use Rattle.lps_meaning.specs.declared.when.When.TheVariants.{Known, Unknown}
 use Rattle.lps_meaning.specs.Conditions.{time_in, is_same_time, goes_on, IsLeftPlaced, left_end, AreLeftInOrder, IsLeftAhead, IsLeftLimit, CanComeTrue}
 use Rattle.lps_meaning.specs.Integers.{integer_in, IsSpanPlacedIn, IsLeftPlacedIn, left_end_in, AreLeftInOrderIn, IsLeftAheadIn, IsLeftLimitIn, CanComeTrueIn, AreTimesLeft}
-use Rattle.lps_meaning.specs.Rules.{kind_of, is_macro}
+use Rattle.lps_model.specs.Rules.{kind_of, is_macro}
 use Rattle.lps_meaning.specs.Sequences.{IsSpanPlaced, Relates}
 use Rattle.lps_meaning.specs.Shapes.{Shape, left_unknowns, unknowns}
 use Rattle.lps_meaning.proofs.ConditionLaws.{and_true, false_true}

@@ -24,7 +24,7 @@ use Rattle.lps_meaning.specs.Conditions.{IsLeftSmall, time_in}
 use Rattle.lps_meaning.specs.Goals.{AreGround}
 use Rattle.lps_meaning.specs.Items.{put_item, IsSmallItem}
 use Rattle.lps_meaning.specs.Laws.{IsOfText, IsWalked}
-use Rattle.lps_meaning.specs.Rules.{MacroClause, Rule, clauses_of, is_macro, kind_of, macro_clause_in, macro_clauses, numbered, rule_in, rules}
+use Rattle.lps_model.specs.Rules.{MacroClause, Rule, clauses_of, is_macro, kind_of, macro_clause_in, macro_clauses, numbered, rule_in, rules}
 use Rattle.lps_meaning.specs.Sequences.{Entry, Link, Place, Values, Times, Walk, stop, pass, replace, start, entries, passed, replaced, link_at, is_call, HasSameTimes, HasSameValues, IsPlaced, IsTrueItem}
 use Rattle.lps_meaning.specs.Shapes.{Sequence, Shape, Whens, alternative_of, antecedent_of, put_shape, left_of, left_at, HasSameWhens, all_known, shape_of, IsPossible, IsGeneral}
 use Rattle.lps_meaning.specs.Steps.{in_front, PassesTo, Unfolds, UnfoldsTo}

@@ -28,7 +28,7 @@ use Rattle.lps_meaning.specs.Alone.{Alone, stay, meet, enter, IsMetBy, IsToldIte
 use Rattle.lps_meaning.specs.Conditions.{IsLeftPlaced, IsLeftSmall, goes_on, left_end, time_in}
 use Rattle.lps_meaning.specs.Items.{put_item, IsSmallItem}
 use Rattle.lps_meaning.specs.Laws.{IsOfText, IsWalked}
-use Rattle.lps_meaning.specs.Rules.{MacroClause, clauses_of, is_macro, kind_of, numbered}
+use Rattle.lps_model.specs.Rules.{MacroClause, clauses_of, is_macro, kind_of, numbered}
 use Rattle.lps_meaning.specs.Sequences.{Entry, Place, Values, Times, Walk, stop, pass, replace, start, entries, passed, replaced, link_at, end_of, is_call, IsPlaced, IsSpanPlaced, IsTrueItem}
 use Rattle.lps_meaning.specs.Shapes.{Sequence, Shape, Whens, put_left, left_of, left_at, IsGeneral}
 use Rattle.lps_meaning.specs.Steps.{PassesTo, UnfoldsTo}

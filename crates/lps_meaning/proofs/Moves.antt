@@ -19,7 +19,7 @@ use Rattle.lps_meaning.specs.declared.when.When.{When}
 use Rattle.lps_meaning.specs.declared.when.When.TheVariants.{Known, Unknown}
 use Rattle.lps_meaning.specs.Holds.{IsTrueLit}
 use Rattle.lps_meaning.specs.Items.{put_item, IsSmallItem}
-use Rattle.lps_meaning.specs.Rules.{is_macro, kind_of}
+use Rattle.lps_model.specs.Rules.{is_macro, kind_of}
 use Rattle.lps_meaning.specs.Sequences.{Entry, Link, Place, Values, Times, Walk, stop, pass, replace, end_of, IsSpanPlaced, IsPlaced, IsTrueItem, IsSmallSoFar, HasSameValues, HasSameTimes}
 use Rattle.lps_meaning.specs.Shapes.{left_of, left_at, all_known}
 

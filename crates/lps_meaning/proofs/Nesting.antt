@@ -12,7 +12,7 @@ use Rattle.lps_model.proofs.Elements.{nothing_contained}
 use Rattle.lps_meaning.specs.declared.goal.Closed.TheVariants as c
 use Rattle.lps_meaning.specs.Examples.{from_to, nullary, event_e, action_a, nesting_text, nesting_trace, nesting_key}
 use Rattle.lps_meaning.specs.Goals.{Reaches, IsMetWithin, HasLive, IsLive, IsCut, IsPending, IsClosed, shared_values}
-use Rattle.lps_meaning.specs.Rules.{Rule, MacroClause, numbered, clauses_of, kind_of, is_macro}
+use Rattle.lps_model.specs.Rules.{Rule, MacroClause, numbered, clauses_of, kind_of, is_macro}
 use Rattle.lps_meaning.specs.Sequences.{Entry, Place, Times, Walk, stop, replace, replaced, link_at, AreAlike, IsSmallSoFar, IsWithin, start, is_call}
 use Rattle.lps_meaning.proofs.ExampleWalks.{first_same, not_empty, other_letter, only_one, constants, constants_ground, stops_or_passes, stops_or_replaces, some_of, only_numbered, small_atom}
 

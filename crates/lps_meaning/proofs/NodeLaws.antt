@@ -20,7 +20,7 @@ use Rattle.lps_meaning.specs.declared.when.When.TheVariants.{Known, Unknown}
 use Rattle.lps_meaning.specs.Conditions.{time_in, AreLeftInOrder, IsLeftLimit, IsLeftSmall, CanComeTrue, ShowsGroup, ShowGroups}
 use Rattle.lps_meaning.specs.Goals.{AreGround, CanGoOn}
 use Rattle.lps_meaning.specs.Items.{put_item, IsSmallItem}
-use Rattle.lps_meaning.specs.Rules.{kind_of}
+use Rattle.lps_model.specs.Rules.{kind_of}
 use Rattle.lps_meaning.specs.Sequences.{Entry, Link, Place, Values, Times, Walk, start, AreInOrder, AreLimits, IsLimit, Relates, IsAhead, IsPlaced, AreAlike, IsSmallSoFar, HasSameValues, HasSameTimes, is_step}
 use Rattle.lps_meaning.specs.Shapes.{Sequence, Shape, Whens, put_when, put_left, put_left_con, put_shape, left_of, left_at, con_of, limits_of, HasSameWhens, all_known, shape_of, IsPossible, IsGeneral}
 use Rattle.lps_meaning.proofs.ConditionLaws.{AreMarked, marked_none, marked, ended, linked, TimesAre, order_there, order_back, first_there, first_back, first_placed, placed_first, end_of_step, shows_there, first_unmarked, some_entry, none_some, false_true}

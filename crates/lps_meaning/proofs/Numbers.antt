@@ -16,7 +16,7 @@ use Rattle.lps_model.specs.declared.trace.Trace.{Trace}
 use Rattle.lps_model.proofs.Elements.{first_or_later, first_is_contained, later_is_contained, nothing_contained, sorted_same}
 use Rattle.lps_meaning.specs.declared.goal.GoalKey.{GoalKey}
 use Rattle.lps_meaning.specs.Cycles.{key_cmp, AreGoals}
-use Rattle.lps_meaning.specs.Rules.{numbered}
+use Rattle.lps_model.specs.Rules.{numbered}
 use Rattle.lps_meaning.proofs.Splits.{le_or_lt}
 
 pub both_equal : (r s : Ordering) → ordering_then r s ≡ Equal → (r ≡ Equal) × (s ≡ Equal)

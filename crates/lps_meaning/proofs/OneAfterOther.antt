@@ -8,7 +8,7 @@ use Rattle.lps_model.specs.Trace.{events_at}
 use Rattle.lps_model.proofs.Elements.{nothing_contained}
 use Rattle.lps_meaning.specs.Examples.{from_to, nullary, event_e, action_a, action_c, one_after_other_text, one_after_other_trace, one_after_other_key}
 use Rattle.lps_meaning.specs.Goals.{Reaches, IsLive, IsPending, shared_values}
-use Rattle.lps_meaning.specs.Rules.{Rule, MacroClause, numbered}
+use Rattle.lps_model.specs.Rules.{Rule, MacroClause, numbered}
 use Rattle.lps_meaning.specs.Sequences.{Entry, Place, Times, Walk, stop, pass, replace, passed, replaced, link_at, IsSmallSoFar, start}
 use Rattle.lps_meaning.proofs.ExampleWalks.{not_empty, other_letter, only_one, constants, constants_ground, stops_or_passes, stops_or_replaces, some_of, only_numbered, small_atom}
 

@@ -18,7 +18,7 @@ use Rattle.lps_meaning.specs.declared.goal.GoalKey.{GoalKey}
 use Rattle.lps_meaning.specs.Cycles.{key_cmp, AreGoals}
 use Rattle.lps_meaning.specs.Examples.{from_to, unary, action_a, one_goal_text, one_goal_trace, one_goal_key}
 use Rattle.lps_meaning.specs.Goals.{IsGoal, AreGround, HasInstance, distinct, shared_values}
-use Rattle.lps_meaning.specs.Rules.{Rule}
+use Rattle.lps_model.specs.Rules.{Rule}
 use Rattle.lps_meaning.specs.Sequences.{Entry, Place, Values, Times, Walk, stop, pass, passed, start}
 use Rattle.lps_meaning.proofs.ExampleWalks.{not_empty, only_one, stops_or_passes, stops, only_numbered, one_sorted}
 

@@ -14,7 +14,8 @@ use Rattle.lps_model.specs.Acceptance.{IsAccepted}
 use Rattle.lps_model.specs.Order.{first_line, follow, has_bad_head_times, has_step, is_mixed_somewhere, is_ordered, is_ordered_after, is_out_of_order, last_end, occurs, refusal_at, steps, times_in, times_of}
 use Rattle.lps_model.proofs.Stated.{no_order_refused}
 use Rattle.lps_meaning.specs.Goals.{distinct, item_times, shared_times}
-use Rattle.lps_meaning.specs.Rules.{MacroClause, Rule, clauses_of, first_begin, kind_of, macro_clause_in, macro_clauses, numbered, rule_in, rules}
+use Rattle.lps_model.specs.Rules.{MacroClause, Rule, clauses_of, kind_of, macro_clause_in, macro_clauses, numbered, rule_in, rules}
+use Rattle.lps_meaning.specs.Frames.{first_begin}
 use Rattle.lps_meaning.specs.Sequences.{entries, start}
 use Rattle.lps_meaning.proofs.Colours.{AreApart, AreOrderly, Colour, Colours, EndsApart, IsColoured, begins_alone, map_front}
 use Rattle.lps_meaning.proofs.Framing.{accepted_texts_are_framed, no_line}

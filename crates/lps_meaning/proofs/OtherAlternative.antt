@@ -8,7 +8,7 @@ use Rattle.lps_model.specs.Trace.{events_at}
 use Rattle.lps_model.proofs.Elements.{nothing_contained}
 use Rattle.lps_meaning.specs.Examples.{from_to, at_most, event_e, action_a, action_c, other_text, other_trace, other_key}
 use Rattle.lps_meaning.specs.Goals.{Reaches, IsMetWithin, HasLive, IsPending, shared_values, shared_times}
-use Rattle.lps_meaning.specs.Rules.{Rule, numbered}
+use Rattle.lps_model.specs.Rules.{Rule, numbered}
 use Rattle.lps_meaning.specs.Sequences.{Entry, Place, Walk, stop, AreLimits, AreInOrder, IsAhead, start}
 use Rattle.lps_meaning.proofs.Deadline.{too_late}
 use Rattle.lps_meaning.proofs.ExampleWalks.{first_same, not_empty, other_letter, only_one, constants, constants_ground, stops_or_passes, some_of, small_atom}

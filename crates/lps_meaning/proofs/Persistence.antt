@@ -9,7 +9,7 @@ use Rattle.lps_terms.specs.declared.cond.Cond.TheVariants as c
 use Rattle.lps_terms.specs.declared.text.Text.{Text}
 use Rattle.lps_values.specs.Truth.{is_true}
 use Rattle.lps_model.specs.declared.trace.Trace.{Trace}
-use Rattle.lps_derivation.specs.Clauses.{clauses}
+use Rattle.lps_model.specs.Clauses.{clauses}
 use Rattle.lps_derivation.specs.Derivation.{Agrees, IsMet}
 use Rattle.lps_derivation.specs.Laws.{Passes}
 use Rattle.lps_derivation.specs.Levels.{AreLevels, AreClosed}

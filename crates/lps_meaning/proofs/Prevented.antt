@@ -27,7 +27,7 @@ use Rattle.lps_meaning.specs.Cycles.{AreJudged, ArePicks, AreLegal, IsLegal}
 use Rattle.lps_meaning.specs.Denials.{IsMetBy, ViolatesNone}
 use Rattle.lps_meaning.specs.Items.{put_item}
 use Rattle.lps_meaning.specs.Laws.{NoneIsViolated}
-use Rattle.lps_meaning.specs.Rules.{denial_in, denials, numbered}
+use Rattle.lps_model.specs.Rules.{denial_in, denials, numbered}
 use Rattle.lps_meaning.proofs.BlockLines.{number_contained}
 
 -- ---- each denial of an accepted text has an event

@@ -17,7 +17,7 @@ use Rattle.lps_meaning.specs.declared.node.LeftItem.TheVariants as l
 use Rattle.lps_meaning.specs.declared.when.When.{When}
 use Rattle.lps_meaning.specs.declared.when.When.TheVariants.{Known, Unknown}
 use Rattle.lps_meaning.specs.Goals.{AreGround}
-use Rattle.lps_meaning.specs.Rules.{MacroClause}
+use Rattle.lps_model.specs.Rules.{MacroClause}
 use Rattle.lps_meaning.specs.Sequences.{Entry, Place, Values, Times, HasSameValues, HasSameTimes, Walk, stop, pass, replace, passed, replaced, link_at, entries, start}
 use Rattle.lps_meaning.specs.Shapes.{Sequence, Shape, Whens, put_when, put_left, put_shape, left_of, left_at, con_of, HasSameWhens, all_known, shape_of, IsPossible, IsGeneral}
 use Rattle.lps_meaning.specs.Steps.{in_front, PassesTo, Unfolds, UnfoldsTo, Chain}

@@ -27,7 +27,7 @@ use Rattle.lps_meaning.specs.declared.goal.NewGoal.{NewGoal}
 use Rattle.lps_meaning.specs.Cycles.{AreGoals}
 use Rattle.lps_meaning.specs.Goals.{IsClosed, HasStatus}
 use Rattle.lps_meaning.specs.Reports.{IsState, IsClosedIn, AreCreated, AreClosedIn, Block, IsBlockOf, IsBlock, AreBlocks, AreCounts, IsReport, block_text, last_line, is_pending, is_failed, is_cut}
-use Rattle.lps_meaning.specs.Rules.{numbered}
+use Rattle.lps_model.specs.Rules.{numbered}
 use Rattle.lps_meaning.proofs.Numbers.{goals_unique, numbered_one}
 use Rattle.lps_meaning.proofs.Prefixes.{holds_same, goal_same, status_same}
 use Rattle.lps_meaning.proofs.Splits.{le_or_lt}

@@ -23,7 +23,7 @@ use Rattle.lps_meaning.specs.declared.when.When.TheVariants.{Known, Unknown}
 use Rattle.lps_meaning.specs.Conditions.{CanComeTrue, goes_on, is_same_time, last_or, ShowGroups, ShowsGroup}
 use Rattle.lps_meaning.specs.Goals.{AreGround, CanGoOn, shared_times}
 use Rattle.lps_meaning.specs.Laws.{IsOfText}
-use Rattle.lps_meaning.specs.Rules.{kind_of, rules}
+use Rattle.lps_model.specs.Rules.{kind_of, rules}
 use Rattle.lps_meaning.specs.Sequences.{Entry, Link, Place, Values, Times, Walk, start, IsAhead, is_call, is_step}
 use Rattle.lps_meaning.specs.Shapes.{Sequence, Shape, Whens, alternative_of, antecedent_of, put_when, put_shape, left_of, left_at, HasSameWhens, all_known, shape_of, IsPossible, IsGeneral}
 use Rattle.lps_meaning.proofs.Colours.{Colour, Colours, AreApart, EndsApart, HasSameColours, IsColoured, coloured, hues, is_same, same_not, same_self}

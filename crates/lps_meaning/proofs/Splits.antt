@@ -8,7 +8,8 @@ use Rattle.lps_terms.specs.declared.item.Item.TheVariants as i
 use Rattle.lps_terms.specs.declared.text.Text.{Text}
 use Rattle.lps_model.specs.declared.trace.Trace.{Trace}
 use Rattle.lps_meaning.specs.Items.{put_item, IsSmallItem}
-use Rattle.lps_meaning.specs.Rules.{AreFramed, is_macro, kind_of}
+use Rattle.lps_model.specs.Rules.{is_macro, kind_of}
+use Rattle.lps_meaning.specs.Frames.{AreFramed}
 use Rattle.lps_meaning.specs.Sequences.{Entry, Place, Values, Times, Walk, stop, pass, replace, passed, replaced, link_at, IsTrueItem, IsSpanPlaced, IsPlaced, AreInOrder, is_call, is_step, IsAhead, entries, HasSameValues, IsSmallSoFar, AreLimits, IsWithin}
 use Rattle.lps_meaning.proofs.Walks.{in_order}
 

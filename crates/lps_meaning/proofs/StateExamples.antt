@@ -6,7 +6,7 @@ use Rattle.lps_terms.specs.declared.cond.Cond.TheVariants as d
 use Rattle.lps_terms.specs.declared.text.Text.{Text}
 use Rattle.lps_terms.specs.Symbols.{atom_symbols_of, symbols_of_all}
 use Rattle.lps_derivation.specs.Derivation.{of_fact, of_clause}
-use Rattle.lps_derivation.specs.Clauses.{clauses}
+use Rattle.lps_model.specs.Clauses.{clauses}
 use Rattle.lps_derivation.specs.Instances.{IsSmall}
 use Rattle.lps_model.specs.declared.trace.Trace.{Trace}
 use Rattle.lps_model.specs.Program.{Law, laws}

@@ -9,7 +9,7 @@ use Rattle.lps_model.specs.declared.trace.Trace.{Trace}
 use Rattle.lps_meaning.specs.declared.goal.Closed.{Closed}
 use Rattle.lps_meaning.specs.declared.goal.Closed.TheVariants as c
 use Rattle.lps_meaning.specs.declared.goal.GoalKey.{GoalKey}
-use Rattle.lps_meaning.specs.Rules.{AreFramed}
+use Rattle.lps_meaning.specs.Frames.{AreFramed}
 use Rattle.lps_meaning.specs.Sequences.{Place, Walk, AreInOrder, AreLimits, IsAhead, IsSmallSoFar, IsWithin, start}
 use Rattle.lps_meaning.specs.Goals.{Reaches, IsMet, IsMetWithin, IsPlan, HasLive, HasMetCut, IsClosed, shared_values}
 use Rattle.lps_meaning.proofs.Walks.{in_order, tight, forward, wider}

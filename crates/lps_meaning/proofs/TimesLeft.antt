@@ -1,9 +1,8 @@
 -- In accepted texts each time of a constraint is one of a step, so along a walk it is known, or stands in an item left.
-use Rattle.std.proofs.Common.{ℕ, suc, Bool, true, false, ◌≡◌, List, [], ◌∷◌, ◌++◌, ◌∙◌, map, refl, sym, ap, subst, inl, inr}
+use Rattle.std.proofs.Common.{ℕ, suc, Bool, true, false, ◌≡◌, List, [], ◌∷◌, ◌++◌, ◌∙◌, map, refl, sym, ap, subst, inl, inr, arith, cond}
 use Rattle.std.specs.Prelude.{◌⊎◌, ◌||◌, ◌==◌, nat_eq, if◌then◌else◌, Option, Some, None, Contains}
 use Rattle.std.specs.List.{AllByRecursion, filter, flat_map}
 use Rattle.std.specs.Option.{option_or}
-use Rattle.std.proofs.Common.{arith, cond}
 use Rattle.std.proofs.lemmas.Bool.Decides.{nat_tests}
 use Rattle.std.proofs.lemmas.Grind.{flat_map-append}
 use Rattle.std.proofs.lemmas.List.Elements.{Contains-append_left, Contains-append_right}
@@ -34,7 +33,8 @@ use Rattle.lps_meaning.specs.declared.when.When.TheVariants.{Known, Unknown}
 use Rattle.lps_meaning.specs.Goals.{AreGround, distinct, item_times, shared_times}
 use Rattle.lps_meaning.specs.Integers.{AreTimesLeft}
 use Rattle.lps_meaning.specs.Laws.{IsOfText}
-use Rattle.lps_meaning.specs.Rules.{IsFramed, MacroClause, Rule, clauses_of, first_begin, kind_of, last_end_or, macro_clause_in, macro_clauses, numbered, rule_in, rules}
+use Rattle.lps_model.specs.Rules.{MacroClause, Rule, clauses_of, kind_of, macro_clause_in, macro_clauses, numbered, rule_in, rules}
+use Rattle.lps_meaning.specs.Frames.{IsFramed, first_begin, last_end_or}
 use Rattle.lps_meaning.specs.Sequences.{Entry, Link, Place, Values, Times, Walk, stop, pass, replace, start, entries}
 use Rattle.lps_meaning.specs.Shapes.{Sequence, Shape, Whens, alternative_of, antecedent_of, left_of, left_at, left_unknowns, unknowns, con_of, limits_of, HasSameWhens, all_known, shape_of, IsGeneral}
 use Rattle.lps_meaning.proofs.BlockLines.{number_contained}

@@ -14,7 +14,7 @@ use Rattle.lps_meaning.specs.Cycles.{IsProposal}
 use Rattle.lps_meaning.specs.Examples.{from_to, event_e, event_f, action_a, action_c, waiting_text, waiting_trace, waiting_key}
 use Rattle.lps_meaning.specs.Goals.{Reaches, IsMetWithin, IsLive, IsPending, shared_values}
 use Rattle.lps_meaning.specs.Items.{IsSmallItem, put_item}
-use Rattle.lps_meaning.specs.Rules.{Rule, numbered, kind_of}
+use Rattle.lps_model.specs.Rules.{Rule, numbered, kind_of}
 use Rattle.lps_meaning.specs.Sequences.{Entry, Place, Times, Walk, stop, pass, passed, IsSmallSoFar, start, done}
 use Rattle.lps_meaning.proofs.ExampleWalks.{first_same, not_empty, other_letter, only_one, constants, constants_ground, stops_or_passes, some_of, only_numbered, small_atom}
 

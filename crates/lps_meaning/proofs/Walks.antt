@@ -9,7 +9,8 @@ use Rattle.lps_terms.specs.declared.lit.Lit.{Lit}
 use Rattle.lps_terms.specs.declared.text.Text.{Text}
 use Rattle.lps_model.specs.declared.trace.Trace.{Trace}
 use Rattle.lps_meaning.specs.Items.{put_item}
-use Rattle.lps_meaning.specs.Rules.{IsFramed, AreFramed, first_begin, last_end_or, is_macro, kind_of}
+use Rattle.lps_model.specs.Rules.{is_macro, kind_of}
+use Rattle.lps_meaning.specs.Frames.{IsFramed, AreFramed, first_begin, last_end_or}
 use Rattle.lps_meaning.specs.Sequences.{Entry, Place, Values, Times, Walk, stop, pass, replace, IsTrueItem, IsSpanPlaced, IsPlaced, AreInOrder, end_of, entries, joins_to}
 
 placed_new : (b : Bool) (before from to : ℕ) → IsSpanPlaced b false before from to → (before ≤ from) × (from ≤ to)

@@ -23,7 +23,7 @@ use Rattle.lps_meaning.specs.declared.when.When.{When}
 use Rattle.lps_meaning.specs.declared.when.When.TheVariants.{Known, Unknown}
 use Rattle.lps_meaning.specs.Conditions.{IsLeftPlaced, IsLeftSmall, goes_on, left_end}
 use Rattle.lps_meaning.specs.Holds.{IsTrueLit}
-use Rattle.lps_meaning.specs.Rules.{MacroClause, clauses_of, is_macro, kind_of, numbered}
+use Rattle.lps_model.specs.Rules.{MacroClause, clauses_of, is_macro, kind_of, numbered}
 use Rattle.lps_meaning.specs.Shapes.{Shape}
 use Rattle.lps_meaning.specs.Steps.{PassesTo, UnfoldsTo}
 

@@ -12,7 +12,7 @@ use Rattle.lps_meaning.specs.declared.node.LeftItem.{LeftItem}
 use Rattle.lps_meaning.specs.declared.node.LeftItem.TheVariants as l
 use Rattle.lps_meaning.specs.declared.when.When.{When}
 use Rattle.lps_meaning.specs.declared.when.When.TheVariants.{Known, Unknown}
-use Rattle.lps_meaning.specs.Rules.{kind_of, is_macro}
+use Rattle.lps_model.specs.Rules.{kind_of, is_macro}
 use Rattle.lps_meaning.specs.Sequences.{Entry, Values, IsSpanPlaced, Relates}
 use Rattle.lps_meaning.specs.Shapes.{Shape, Whens, left_at}
 

@@ -24,7 +24,7 @@ use Rattle.lps_derivation.specs.Ground.{is_ground}
 use Rattle.lps_meaning.specs.declared.goal.GoalKey.{GoalKey}
 use Rattle.lps_meaning.specs.Denials.{ViolatesNone, ViolatesNumber, IsLeastViolated}
 use Rattle.lps_meaning.specs.Goals.{IsGoal, IsLive, IsPending}
-use Rattle.lps_meaning.specs.Rules.{numbered, kind_of}
+use Rattle.lps_model.specs.Rules.{numbered, kind_of}
 use Rattle.lps_meaning.specs.Sequences.{Entry, Place, Values, Times, done}
 
 -- ---- goals by number

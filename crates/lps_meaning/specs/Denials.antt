@@ -13,7 +13,7 @@ use Rattle.lps_model.specs.Trace.{then_cycle}
 use Rattle.lps_derivation.specs.Ground.{is_ground}
 use Rattle.lps_meaning.specs.Holds.{IsTrueLit}
 use Rattle.lps_meaning.specs.Items.{put_item, IsSmallItem}
-use Rattle.lps_meaning.specs.Rules.{denials, numbered}
+use Rattle.lps_model.specs.Rules.{denials, numbered}
 
 -- the trace with one more cycle, in which these events happen
 abbrev pub then_events : Trace → List Atom → Trace

@@ -31,7 +31,7 @@ use Rattle.lps_meaning.specs.Denials.{ViolatesNone, IsLeastViolated}
 use Rattle.lps_meaning.specs.Goals.{IsGoal, HasLive, IsPending, IsClosed}
 use Rattle.lps_meaning.specs.Holds.{Holds, Terminated}
 use Rattle.lps_meaning.specs.Nodes.{IsWaitingNode, node_size}
-use Rattle.lps_meaning.specs.Rules.{Rule}
+use Rattle.lps_model.specs.Rules.{Rule}
 
 -- ---- parts of texts and traces
 

@@ -11,7 +11,7 @@ use Rattle.lps_derivation.specs.Ground.{is_ground}
 use Rattle.lps_meaning.specs.declared.goal.Closed.{Closed}
 use Rattle.lps_meaning.specs.declared.goal.Closed.TheVariants as c
 use Rattle.lps_meaning.specs.declared.goal.GoalKey.{GoalKey}
-use Rattle.lps_meaning.specs.Rules.{Rule, rules, numbered}
+use Rattle.lps_model.specs.Rules.{Rule, rules, numbered}
 use Rattle.lps_meaning.specs.Sequences.{Entry, Place, Values, Times, is_step, is_call, AreInOrder, AreLimits, IsAhead, IsSmallSoFar, Walk, start, IsWithin}
 
 -- ---- what an antecedent and its alternatives share

@@ -12,7 +12,7 @@ use Rattle.lps_values.specs.Truth.{is_true}
 use Rattle.lps_model.specs.declared.trace.Trace.{Trace}
 use Rattle.lps_model.specs.Program.{Law, laws}
 use Rattle.lps_model.specs.Trace.{events_at}
-use Rattle.lps_derivation.specs.Clauses.{clauses}
+use Rattle.lps_model.specs.Clauses.{clauses}
 use Rattle.lps_derivation.specs.Derivation.{Agrees, IsDerived, IsMet}
 use Rattle.lps_derivation.specs.Ground.{is_ground}
 use Rattle.lps_derivation.specs.Instances.{put_cond, IsSmall, IsSmallCond}

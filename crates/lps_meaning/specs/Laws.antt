@@ -14,7 +14,7 @@ use Rattle.lps_model.specs.declared.trace.Trace.{Trace}
 use Rattle.lps_model.specs.Formed.{is_formed}
 use Rattle.lps_model.specs.Trace.{happens_in}
 use Rattle.lps_model.specs.Acceptance.{IsAccepted}
-use Rattle.lps_derivation.specs.Clauses.{clauses}
+use Rattle.lps_model.specs.Clauses.{clauses}
 use Rattle.lps_derivation.specs.Derivation.{Follows}
 use Rattle.lps_derivation.specs.Ground.{is_ground}
 use Rattle.lps_derivation.specs.Laws.{Passes}
@@ -39,7 +39,8 @@ use Rattle.lps_meaning.specs.Integers.{AreTimesLeft, CanComeTrueIn}
 use Rattle.lps_meaning.specs.Nodes.{IsResidual}
 use Rattle.lps_meaning.specs.Plain.{IsPlainRun}
 use Rattle.lps_meaning.specs.Reports.{AreBlocks, Block, IsBlockOf, IsBlock, IsReport, IsGroundAtom, IsGroundBlock, IsGroundCycle, IsSmallBlock, IsSmallCycle, block_text, AreCounts}
-use Rattle.lps_meaning.specs.Rules.{AreFramed, MacroClause, Rule, clauses_of, is_macro, kind_of, numbered, rules}
+use Rattle.lps_model.specs.Rules.{MacroClause, Rule, clauses_of, is_macro, kind_of, numbered, rules}
+use Rattle.lps_meaning.specs.Frames.{AreFramed}
 use Rattle.lps_meaning.specs.Sequences.{Entry, is_call, is_step, IsPlaced, IsTrueItem, link_at, passed, Place, replaced, Values, Times, Walk, start}
 use Rattle.lps_meaning.specs.Shapes.{Sequence, Shape, IsGeneral, alternative_of, antecedent_of, left_of, put_shape}
 use Rattle.lps_meaning.specs.Steps.{Chain, PassesTo, UnfoldsTo}

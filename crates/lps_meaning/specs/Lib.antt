@@ -1,4 +1,4 @@
-pub mod Rules
+pub mod Frames
 pub mod Items
 pub mod Holds
 pub mod Denials

@@ -14,7 +14,7 @@ use Rattle.lps_meaning.specs.declared.node.LeftItem.TheVariants as l
 use Rattle.lps_meaning.specs.declared.node.Node.{Node}
 use Rattle.lps_meaning.specs.Cycles.{AreGoals}
 use Rattle.lps_meaning.specs.Goals.{AreGround, CanGoOn, IsLive, IsPending, IsClosed}
-use Rattle.lps_meaning.specs.Rules.{Rule, rules}
+use Rattle.lps_model.specs.Rules.{Rule, rules}
 use Rattle.lps_meaning.specs.Sequences.{Place, Values, Times, Walk, start, rank, done, is_call}
 use Rattle.lps_meaning.specs.Shapes.{Sequence, alternative_of, antecedent_of, Shape, IsGeneral, IsCanonical, untested}
 

@@ -26,7 +26,7 @@ use Rattle.lps_meaning.specs.declared.goal.NewGoal.{NewGoal}
 use Rattle.lps_meaning.specs.Cycles.{AreGoals}
 use Rattle.lps_meaning.specs.Goals.{IsPending, IsClosed, HasStatus}
 use Rattle.lps_meaning.specs.Holds.{Holds}
-use Rattle.lps_meaning.specs.Rules.{numbered}
+use Rattle.lps_model.specs.Rules.{numbered}
 
 -- ---- what is reported of a cycle
 

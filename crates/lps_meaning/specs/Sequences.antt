@@ -19,7 +19,7 @@ use Rattle.lps_model.specs.Order.{are_grouped}
 use Rattle.lps_model.specs.Trace.{events_at}
 use Rattle.lps_meaning.specs.Holds.{IsTrueLit}
 use Rattle.lps_meaning.specs.Items.{put_item, IsSmallItem}
-use Rattle.lps_meaning.specs.Rules.{MacroClause, clauses_of, numbered, kind_of, is_macro}
+use Rattle.lps_model.specs.Rules.{MacroClause, clauses_of, numbered, kind_of, is_macro}
 
 -- ---- entries and places
 

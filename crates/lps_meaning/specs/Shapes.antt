@@ -17,7 +17,7 @@ use Rattle.lps_meaning.specs.declared.node.LeftItem.TheVariants as l
 use Rattle.lps_meaning.specs.declared.when.When.{When}
 use Rattle.lps_meaning.specs.declared.when.When.TheVariants.{Known, Unknown}
 use Rattle.lps_meaning.specs.Goals.{shared_values, shared_times}
-use Rattle.lps_meaning.specs.Rules.{Rule}
+use Rattle.lps_model.specs.Rules.{Rule}
 use Rattle.lps_meaning.specs.Sequences.{Entry, Link, Place, Values, Times, HasSameValues}
 
 -- a sequence, with the variables and times whose values are given at its start, and those that it carries on

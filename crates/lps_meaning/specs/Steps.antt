@@ -10,7 +10,7 @@ use Rattle.lps_meaning.specs.declared.node.Left.{Left}
 use Rattle.lps_meaning.specs.declared.node.LeftItem.TheVariants as l
 use Rattle.lps_meaning.specs.declared.when.When.{When}
 use Rattle.lps_meaning.specs.declared.when.When.TheVariants.{Known}
-use Rattle.lps_meaning.specs.Rules.{MacroClause}
+use Rattle.lps_model.specs.Rules.{MacroClause}
 use Rattle.lps_meaning.specs.Sequences.{Place, Values, Times, Walk, stop, pass, replace, entries}
 use Rattle.lps_meaning.specs.Shapes.{Shape, put_shape, left_of, con_of}
 

@@ -8,7 +8,7 @@ use Rattle.lps_model.specs.Calls.{calls}
 use Rattle.lps_model.specs.Declarations.{kind_among}
 use Rattle.lps_model.specs.KindRefusals.{kind_refusal}
 use Rattle.lps_model.specs.Known.{unknown_of}
-use Rattle.lps_model.specs.Levels.{AreLevels, IsUnlevelled}
+use Rattle.lps_model.specs.Levels.{AreCallLevels, IsUnlevelled}
 use Rattle.lps_model.specs.Order.{order_refusal}
 use Rattle.lps_model.specs.Program.{declarations}
 
@@ -20,7 +20,7 @@ early_refusal text = option_or (kind_refusal text) (option_or (order_refusal (ki
 pub record IsAccepted (text : Text) : Type 0 where
   pub not_refused : early_refusal text ≡ None
   pub level : List ℕ → ℕ
-  pub levelled : AreLevels (calls text) level
+  pub levelled : AreCallLevels (calls text) level
 
 -- The text is refused for this: the first that stands, where it has no levels last.
 abbrev pub IsRefusedFor : Text → Refused → Type 0

@@ -18,8 +18,8 @@ pub record IsLevel (level : List ℕ → ℕ) (call : Call) : Type 0 where
   pub lower : call.is_strict ≡ true → level call.callee < level call.caller
 
 -- these are levels for the calls
-abbrev pub AreLevels : List Call → (List ℕ → ℕ) → Type 0
-AreLevels calls level = (call : Call) → Contains calls call → IsLevel level call
+abbrev pub AreCallLevels : List Call → (List ℕ → ℕ) → Type 0
+AreCallLevels calls level = (call : Call) → Contains calls call → IsLevel level call
 
 -- the level that a list has for a name, and 0 for another name
 abbrev pub level_or_none : Option ℕ → ℕ
@@ -32,7 +32,7 @@ level_among levels name = level_or_none (lookup (bytes_eq name) levels)
 -- the list has levels for the calls of the text, and one for each timeless, derived and macro name and for no other
 pub record AreLevelsOf (text : Text) (levels : List (List ℕ × ℕ)) : Type 0 where
   pub names : (name : List ℕ) → is_some (lookup (bytes_eq name) levels) ≡ is_called (kind_among (declarations text) name)
-  pub levelled : AreLevels (calls text) (level_among levels)
+  pub levelled : AreCallLevels (calls text) (level_among levels)
 
 -- ---- cycles
 

@@ -1,4 +1,6 @@
 pub mod Program
+pub mod Clauses
+pub mod Rules
 pub mod Declarations
 pub mod Table
 pub mod Order

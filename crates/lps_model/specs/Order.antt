@@ -153,10 +153,10 @@ span_in (item ∷ rest) = span_in rest
 
 -- an item of a denial whose events last between these times: a `from to` item has both, an `at` item has one of them, and
 -- once an item at the second has stood no other may
-abbrev pub may_stand : ℕ → ℕ → Bool → Item → Bool
-may_stand first second late (i.At lit time) = (time.0 == first && not late) || time.0 == second
-may_stand first second late (i.Span atom from to) = (from.0 == first && to.0 == second) && not late
-may_stand first second late _ = true
+abbrev pub may_stand_between : ℕ → ℕ → Bool → Item → Bool
+may_stand_between first second late (i.At lit time) = (time.0 == first && not late) || time.0 == second
+may_stand_between first second late (i.Span atom from to) = (from.0 == first && to.0 == second) && not late
+may_stand_between first second late _ = true
 
 -- an item at this time
 abbrev pub stands_at : ℕ → Item → Bool
@@ -166,7 +166,7 @@ stands_at second _ = false
 -- the items of a denial may stand in this order, `late` once an item at the second time has stood
 abbrev pub may_all_stand : ℕ → ℕ → Bool → List Item → Bool
 may_all_stand first second late [] = true
-may_all_stand first second late (item ∷ rest) = may_stand first second late item && may_all_stand first second (late || stands_at second item) rest
+may_all_stand first second late (item ∷ rest) = may_stand_between first second late item && may_all_stand first second (late || stands_at second item) rest
 
 -- the items of a denial stand in order between these two times, which differ
 abbrev pub is_between : Option (ℕ × ℕ) → List Item → Bool

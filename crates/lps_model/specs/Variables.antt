@@ -1,5 +1,6 @@
 -- Which terms hold a variable.
-use Rattle.std.specs.Prelude.{ℕ, ℤ, ◌≡◌, Bool, true, false, List, [], ◌∷◌, map, if◌then◌else◌}
+use Rattle.std.specs.Prelude.{ℕ, ℤ, ◌≡◌, Bool, true, false, List, map}
+use Rattle.std.specs.List.{list_any}
 use Rattle.lps_terms.specs.declared.atom.Atom.{Atom}
 use Rattle.lps_terms.specs.declared.term.Term.{Term}
 use Rattle.lps_terms.specs.declared.term.Term.TheVariants as t
@@ -7,14 +8,9 @@ use Rattle.lps_terms.specs.declared.term.Term.TheOpen.{Term-F}
 use Rattle.lps_terms.specs.declared.term.Term.TheFolds.{fold-Term}
 use Rattle.lps_terms.specs.Forms.{fold-Int, fold-Sym, fold-App, fold-Var}
 
--- whether one of them is true
-abbrev pub any_true : List Bool → Bool
-any_true [] = false
-any_true (b ∷ bs) = if b then true else any_true bs
-
 -- a variable holds one, and a function where one of its arguments does
 abbrev pub variable_step : Term-F Bool → Bool
-variable_step (Term-F.App name bs) = any_true bs
+variable_step (Term-F.App name bs) = list_any (λ b. b) bs
 variable_step (Term-F.Var number) = true
 variable_step _ = false
 
@@ -24,7 +20,7 @@ has_variable = fold-Term Bool variable_step
 
 -- whether one of these terms holds a variable
 abbrev pub have_variables : List Term → Bool
-have_variables ts = any_true (map has_variable ts)
+have_variables ts = list_any (λ b. b) (map has_variable ts)
 
 pub variable_in_int : (z : ℤ) → has_variable (t.Int z) ≡ false
 variable_in_int = fold-Int Bool variable_step
@@ -40,5 +36,4 @@ variable_in_var = fold-Var Bool variable_step
 
 -- whether one of these atoms holds a variable
 abbrev pub hold_variables : List Atom → Bool
-hold_variables [] = false
-hold_variables (atom ∷ atoms) = if have_variables atom.args then true else hold_variables atoms
+hold_variables atoms = list_any (λ atom. have_variables atom.args) atoms

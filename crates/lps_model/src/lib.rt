@@ -16,6 +16,7 @@ mod occurrence;
 mod place;
 mod table;
 mod trace;
+mod variables;
 mod verdict;
 
 pub use accepted::Accepted;
@@ -28,4 +29,5 @@ pub use levels::Levels;
 pub use occurrence::Occurrence;
 pub use place::Place;
 pub use trace::Trace;
+pub use variables::{has_variable, have_variables};
 pub use verdict::Verdict;

@@ -1,5 +1,5 @@
 ghost use Rattle.std.specs.Prelude.{◌≡◌, false};
-ghost use Rattle.lps_model.specs.Order.{is_denial_ordered, may_all_stand, may_stand, span_in, stands_at};
+ghost use Rattle.lps_model.specs.Order.{is_denial_ordered, may_all_stand, may_stand_between, span_in, stands_at};
 
 use lps_terms::Item;
 
@@ -30,7 +30,7 @@ fn may_all_stand(first: u32, second: u32, items: &[Item]) -> bool
 {
     let mut late = false;
     for item in items {
-        if !may_stand(first, second, late, item) {
+        if !may_stand_between(first, second, late, item) {
             return false;
         }
         late = late || stands_at(second, item);
@@ -39,8 +39,8 @@ fn may_all_stand(first: u32, second: u32, items: &[Item]) -> bool
 }
 
 /// Whether an item may stand there, `late` where one at the second time has stood before it.
-fn may_stand(first: u32, second: u32, late: bool, item: &Item) -> bool
-    ensures { result ≡ may_stand first second late item.now }
+fn may_stand_between(first: u32, second: u32, late: bool, item: &Item) -> bool
+    ensures { result ≡ may_stand_between first second late item.now }
 {
     match item {
         Item::At(_, time) => (time.0 == first && !late) || time.0 == second,

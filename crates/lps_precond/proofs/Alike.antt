@@ -15,13 +15,13 @@ use Rattle.lps_model.specs.declared.verdict.Verdict.TheVariants.{Admitted}
 use Rattle.lps_model.specs.Acceptance.{IsAccepted}
 use Rattle.lps_model.specs.Order.{happens}
 use Rattle.lps_model.specs.Trace.{admitted, happens_in}
-use Rattle.lps_derivation.specs.Clauses.{clauses}
+use Rattle.lps_model.specs.Clauses.{clauses}
 use Rattle.lps_derivation.specs.Laws.{Passes, IsDerivedFrom}
 use Rattle.lps_derivation.proofs.Reach.{same_reached}
 use Rattle.lps_meaning.specs.Denials.{then_events}
 use Rattle.lps_meaning.specs.Holds.{Holds, IsTrueOver}
 use Rattle.lps_meaning.specs.Reports.{IsState}
-use Rattle.lps_meaning.specs.Rules.{kind_of}
+use Rattle.lps_model.specs.Rules.{kind_of}
 use Rattle.lps_meaning.proofs.Persistence.{turn, update_law}
 use Rattle.lps_solve.specs.Met.{AreGround}
 use Rattle.lps_solve.proofs.Facts.{among_contains, contains_among}

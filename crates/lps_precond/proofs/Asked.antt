@@ -17,11 +17,11 @@ use Rattle.lps_model.specs.Formed.{is_formed}
 use Rattle.lps_model.specs.Order.{happens}
 use Rattle.lps_model.specs.VariableLists.{cond_vars}
 use Rattle.lps_model.proofs.Elements.{first_or_later, later_is_contained, first_is_contained, nothing_contained}
-use Rattle.lps_derivation.specs.Clauses.{clauses}
+use Rattle.lps_model.specs.Clauses.{clauses}
 use Rattle.lps_derivation.specs.Ground.{is_ground}
 use Rattle.lps_derivation.specs.Instances.{put_cond}
 use Rattle.lps_derivation.specs.Levels.{AreLevels}
-use Rattle.lps_meaning.specs.Rules.{denials, kind_of}
+use Rattle.lps_model.specs.Rules.{denials, kind_of}
 use Rattle.lps_unify.specs.Bindings.{TrailedBindings, standing}
 use Rattle.lps_causal.proofs.Happening.{true_where_fact}
 use Rattle.lps_solve.specs.Met.{AreGround, AreMet, IsMetCond}

@@ -16,7 +16,7 @@ use Rattle.lps_model.specs.declared.trace.Trace.{Trace}
 use Rattle.lps_model.specs.Formed.{is_formed_atom, is_formed_cond, is_formed_item}
 use Rattle.lps_model.specs.Order.{happens, span_in}
 use Rattle.lps_model.specs.VariableLists.{cond_vars}
-use Rattle.lps_derivation.specs.Clauses.{Clause, clauses}
+use Rattle.lps_model.specs.Clauses.{Clause, clauses}
 use Rattle.lps_derivation.specs.Derivation.{Agrees}
 use Rattle.lps_derivation.specs.Ground.{is_ground}
 use Rattle.lps_derivation.specs.Instances.{put_cond, put_lit}
@@ -24,7 +24,7 @@ use Rattle.lps_derivation.specs.Laws.{IsDerivedFrom}
 use Rattle.lps_meaning.specs.Denials.{IsMetBy, Violates, then_events}
 use Rattle.lps_meaning.specs.Holds.{IsTrueAt, IsTrueLit}
 use Rattle.lps_meaning.specs.Items.{IsSmallItem, put_item}
-use Rattle.lps_meaning.specs.Rules.{kind_of}
+use Rattle.lps_model.specs.Rules.{kind_of}
 use Rattle.lps_meaning.proofs.Occurrences.{Agree}
 use Rattle.lps_meaning.proofs.Persistence.{agrees_same, turn}
 use Rattle.lps_causal.proofs.Happening.{is_condition, is_timeless}

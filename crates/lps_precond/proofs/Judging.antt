@@ -16,10 +16,10 @@ use Rattle.lps_model.specs.declared.trace.Trace.{Trace}
 use Rattle.lps_model.specs.Acceptance.{IsAccepted}
 use Rattle.lps_model.specs.Formed.{is_formed}
 use Rattle.lps_model.proofs.Elements.{first_is_contained, later_is_contained}
-use Rattle.lps_derivation.specs.Clauses.{Clause, clauses}
+use Rattle.lps_model.specs.Clauses.{Clause, clauses}
 use Rattle.lps_derivation.specs.Levels.{AreLevels}
 use Rattle.lps_meaning.specs.Denials.{ViolatesNumber}
-use Rattle.lps_meaning.specs.Rules.{denials}
+use Rattle.lps_model.specs.Rules.{denials}
 use Rattle.lps_solve.proofs.Gaining.{take_more}
 use Rattle.lps_precond.specs.Cut.{Cut, cut, cuts}
 use Rattle.lps_precond.specs.Judged.{IsJudged, IsLeast, IsViolatedNumber}

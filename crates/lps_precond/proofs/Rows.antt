@@ -13,7 +13,7 @@ use Rattle.lps_terms.specs.Put.{after, put, put-Var}
 use Rattle.lps_terms.specs.Symbols.{symbols_of}
 use Rattle.lps_model.specs.VariableLists.{cond_vars}
 use Rattle.lps_model.proofs.Elements.{first_is_contained, nothing_contained}
-use Rattle.lps_derivation.specs.Clauses.{Clause}
+use Rattle.lps_model.specs.Clauses.{Clause}
 use Rattle.lps_derivation.specs.Ground.{is_ground}
 use Rattle.lps_derivation.specs.Instances.{IsSmall, put_cond}
 use Rattle.lps_derivation.proofs.Puts.{put_cond-put_cond}

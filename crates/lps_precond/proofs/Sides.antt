@@ -8,8 +8,8 @@ use Rattle.lps_terms.specs.declared.item.Item.{Item}
 use Rattle.lps_terms.specs.declared.item.Item.TheVariants as i
 use Rattle.lps_terms.specs.declared.text.Text.{Text}
 use Rattle.lps_model.specs.Formed.{is_no_constraint}
-use Rattle.lps_model.specs.Order.{happens, may_all_stand, may_stand, span_in, stands_at}
-use Rattle.lps_meaning.specs.Rules.{kind_of}
+use Rattle.lps_model.specs.Order.{happens, may_all_stand, may_stand_between, span_in, stands_at}
+use Rattle.lps_model.specs.Rules.{kind_of}
 use Rattle.lps_causal.proofs.Happening.{is_condition, is_timeless}
 use Rattle.lps_solve.proofs.Grounds.{first_of_two, second_of}
 use Rattle.lps_precond.specs.Cut.{back_of, count_early, front_of, second_in}
@@ -54,7 +54,7 @@ still true h = refl
 still false h = absurd (cc)
 
 module _ (text : Text) (first second : ℕ) where
-  early_item : (item : Item) → may_stand first second false item ≡ true → stands_at second item ≡ false → HasKinds text item → is_no_constraint item ≡ true → IsEarly text first second item
+  early_item : (item : Item) → may_stand_between first second false item ≡ true → stands_at second item ≡ false → HasKinds text item → is_no_constraint item ≡ true → IsEarly text first second item
   early_item (i.At l time) stand early kind plain = (same_number time.0 first (only_first (time.0 == first) (time.0 == second) stand early), kind)
   early_item (i.Bare l) stand early kind plain = kind
   early_item (i.Built built) stand early kind plain = tt
@@ -63,7 +63,7 @@ module _ (text : Text) (first second : ℕ) where
       (same_number from.0 first (first_of_two (from.0 == first) (to.0 == second) both), same_number to.0 second (second_of (from.0 == first) (to.0 == second) both), kind)
   early_item (i.Con con) stand early kind plain = absurd (cc)
 
-  late_item : (item : Item) → may_stand first second true item ≡ true → HasKinds text item → is_no_constraint item ≡ true → IsLate text second item
+  late_item : (item : Item) → may_stand_between first second true item ≡ true → HasKinds text item → is_no_constraint item ≡ true → IsLate text second item
   late_item (i.At l time) stand kind plain = (same_number time.0 second (only_second (time.0 == first) (time.0 == second) stand), kind)
   late_item (i.Bare l) stand kind plain = kind
   late_item (i.Built built) stand kind plain = tt
@@ -80,19 +80,19 @@ module _ (text : Text) (first second : ℕ) where
   all_late : (items : List Item) → may_all_stand first second true items ≡ true → AllByRecursion (HasKinds text) items → list_all is_no_constraint items ≡ true → AllByRecursion (IsLate text second) items
   all_late [] stand kinds plain = tt
   all_late (item ∷ items) stand kinds plain = (
-    late_item item (first_of_two (may_stand first second true item) (may_all_stand first second true items) stand) kinds.0 (first_of_two (is_no_constraint item) (list_all is_no_constraint items) plain),
-    all_late items (second_of (may_stand first second true item) (may_all_stand first second true items) stand) kinds.1 (second_of (is_no_constraint item) (list_all is_no_constraint items) plain),
+    late_item item (first_of_two (may_stand_between first second true item) (may_all_stand first second true items) stand) kinds.0 (first_of_two (is_no_constraint item) (list_all is_no_constraint items) plain),
+    all_late items (second_of (may_stand_between first second true item) (may_all_stand first second true items) stand) kinds.1 (second_of (is_no_constraint item) (list_all is_no_constraint items) plain),
   )
 
   module _ (item : Item) (items : List Item) (stand : may_all_stand first second false (item ∷ items) ≡ true) (kinds : AllByRecursion (HasKinds text) (item ∷ items))
       (plain : list_all is_no_constraint (item ∷ items) ≡ true) where
-    here : may_stand first second false item ≡ true
-    here = first_of_two (may_stand first second false item) (may_all_stand first second (false || stands_at second item) items) stand
+    here : may_stand_between first second false item ≡ true
+    here = first_of_two (may_stand_between first second false item) (may_all_stand first second (false || stands_at second item) items) stand
 
     there : (late : Bool) → stands_at second item ≡ late → may_all_stand first second late items ≡ true
     there late is =
         subst (λ now. may_all_stand first second (false || now) items ≡ true) is
-        (second_of (may_stand first second false item) (may_all_stand first second (false || stands_at second item) items) stand)
+        (second_of (may_stand_between first second false item) (may_all_stand first second (false || stands_at second item) items) stand)
 
     early_by : (late : Bool) → stands_at second item ≡ late →
         (may_all_stand first second false items ≡ true → AllByRecursion (IsEarly text first second) (take (count_early (Some second) items) items)) →

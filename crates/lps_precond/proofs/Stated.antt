@@ -23,7 +23,7 @@ use Rattle.lps_model.specs.Order.{first_line, happens, is_denial_ordered, is_out
 use Rattle.lps_model.specs.Program.{declarations}
 use Rattle.lps_model.proofs.Elements.{first_is_contained, first_or_later, later_is_contained, nothing_contained}
 use Rattle.lps_model.proofs.Stated.{HasKindAt, IsStated, flat_contains, flat_within, kind_at, no_order_refused, not_not, only_one, statement_has_event, statement_known}
-use Rattle.lps_meaning.specs.Rules.{denial_in, denials, kind_of}
+use Rattle.lps_model.specs.Rules.{denial_in, denials, kind_of}
 use Rattle.lps_causal.proofs.Happening.{is_condition, is_timeless}
 use Rattle.lps_solve.proofs.Grounds.{first_of_two, second_of}
 

@@ -8,7 +8,7 @@ use Rattle.lps_terms.specs.declared.item.Item.{Item}
 use Rattle.lps_terms.specs.declared.item.Item.TheVariants as i
 use Rattle.lps_terms.specs.declared.text.Text.{Text}
 use Rattle.lps_model.specs.Order.{stands_at}
-use Rattle.lps_meaning.specs.Rules.{denials}
+use Rattle.lps_model.specs.Rules.{denials}
 
 -- the names of what is to happen, the conditions before the second time begins, and those from there on
 pub record Cut : Type 0 where

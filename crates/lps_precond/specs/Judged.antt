@@ -6,9 +6,9 @@ use Rattle.lps_terms.specs.declared.effects.Effects.{Effects}
 use Rattle.lps_terms.specs.declared.text.Text.{Text}
 use Rattle.lps_facts.specs.Facts.{TrailedSet, with_effects}
 use Rattle.lps_model.specs.declared.trace.Trace.{Trace}
-use Rattle.lps_derivation.specs.Clauses.{Clause}
+use Rattle.lps_model.specs.Clauses.{Clause}
 use Rattle.lps_meaning.specs.Denials.{IsLeastViolated, ViolatesNone}
-use Rattle.lps_meaning.specs.Rules.{numbered}
+use Rattle.lps_model.specs.Rules.{numbered}
 use Rattle.lps_precond.specs.Cut.{Cut}
 use Rattle.lps_precond.specs.Rows.{IsViolated}
 

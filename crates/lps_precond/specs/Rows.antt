@@ -12,7 +12,7 @@ use Rattle.lps_terms.specs.declared.text.Text.{Text}
 use Rattle.lps_terms.specs.declared.values.Values.{Values}
 use Rattle.lps_terms.specs.Names.{name_eq}
 use Rattle.lps_model.specs.VariableLists.{cond_vars}
-use Rattle.lps_derivation.specs.Clauses.{Clause, clauses}
+use Rattle.lps_model.specs.Clauses.{Clause, clauses}
 use Rattle.lps_derivation.specs.Levels.{AreLevels}
 use Rattle.lps_solve.specs.Answers.{with_vars}
 use Rattle.lps_solve.specs.Met.{AreGround, AreMet}

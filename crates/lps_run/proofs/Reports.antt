@@ -11,11 +11,11 @@ use Rattle.lps_model.specs.declared.trace.Trace.{Trace}
 use Rattle.lps_model.specs.Trace.{cycle_at, cycle_or_none, no_cycle, then_cycle}
 use Rattle.lps_model.specs.Run.{first_trace}
 use Rattle.lps_model.proofs.Elements.{nothing_contained}
-use Rattle.lps_derivation.specs.Clauses.{clauses}
+use Rattle.lps_model.specs.Clauses.{clauses}
 use Rattle.lps_derivation.specs.Levels.{AreLevels}
 use Rattle.lps_meaning.specs.Laws.{BlocksStay, IsContinuation}
 use Rattle.lps_meaning.specs.Reports.{AreBlocks, AreCounts, IsBlock}
-use Rattle.lps_meaning.specs.Rules.{rules}
+use Rattle.lps_model.specs.Rules.{rules}
 use Rattle.lps_cycle.specs.Engine.{EngineState, IsStateOf, Stands, depth}
 use Rattle.lps_cycle.proofs.Runs.{no_goals, no_key}
 use Rattle.lps_run.specs.Reporting.{AreAllBlocks, IsLastLine, IsWholeReport, block_of}

@@ -6,7 +6,7 @@ use Rattle.lps_terms.specs.declared.body.Body.{Body}
 use Rattle.lps_terms.specs.declared.body.Body.TheVariants as b
 use Rattle.lps_terms.specs.declared.statement.Statement.{Statement}
 use Rattle.lps_terms.specs.declared.text.Text.{Text}
-use Rattle.lps_meaning.specs.Rules.{rule_in, rules}
+use Rattle.lps_model.specs.Rules.{rule_in, rules}
 use Rattle.lps_run.specs.Built.{first_not_built, is_built, not_built}
 
 no_rule : (body : Body) → is_built body ≡ true → rule_in body ≡ []

@@ -5,7 +5,7 @@ use Rattle.lps_model.specs.declared.batch.Batch.{Batch}
 use Rattle.lps_model.specs.declared.trace.Trace.{Trace}
 use Rattle.lps_lines.specs.Stream.{IsLine}
 use Rattle.lps_batches.specs.Lines.{IsBatchLine}
-use Rattle.lps_meaning.specs.Rules.{rules}
+use Rattle.lps_model.specs.Rules.{rules}
 use Rattle.lps_outside.specs.Bytes.{Stream}
 use Rattle.lps_run.specs.declared.stream.Running.{Running}
 use Rattle.lps_cycle.specs.Engine.{Stands}

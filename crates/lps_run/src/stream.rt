@@ -2,7 +2,7 @@ ghost use Rattle.std.specs.Prelude.{◌≡◌, ◌≤◌, ◌<◌, ◌+◌, ◌+
 ghost use Rattle.lps_terms.specs.declared.text.Text.{Text};
 ghost use Rattle.lps_facts.specs.Facts.{members};
 ghost use Rattle.lps_run.specs.Reporting.{block_of as block_text};
-ghost use Rattle.lps_meaning.specs.Rules.{rules};
+ghost use Rattle.lps_model.specs.Rules.{rules};
 ghost use Rattle.lps_outside.specs.Bytes.{Stream, Appends, AppendsFront, Takes, TakesNothing};
 ghost use Rattle.lps_outside.specs.Causes.{Rose};
 ghost use Rattle.lps_run.specs.Stopping.{Counted, Reported, StopsAtLine, Stopped, TakesWithin, KeepsLimit};

@@ -20,7 +20,7 @@ use Rattle.lps_model.specs.KindRefusals.{kind_refusal}
 use Rattle.lps_model.specs.Levels as model
 use Rattle.lps_model.specs.Program.{declarations}
 use Rattle.lps_model.proofs.Elements.{first_is_contained, first_or_later, nothing_contained}
-use Rattle.lps_derivation.specs.Clauses.{Clause, clause_in, clauses}
+use Rattle.lps_model.specs.Clauses.{Clause, clause_in, clauses}
 use Rattle.lps_derivation.specs.Levels.{AreLevels}
 use Rattle.lps_levels.specs.Graphs.{HasCalledHead}
 use Rattle.lps_levels.proofs.Heads.{heads_are_called}

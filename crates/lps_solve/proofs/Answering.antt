@@ -19,7 +19,7 @@ use Rattle.lps_terms.specs.declared.values.Values.{Values}
 use Rattle.lps_terms.specs.Put.{put, put-Var}
 use Rattle.lps_model.specs.VariableLists.{args_vars, cond_vars, term_vars}
 use Rattle.lps_model.proofs.Elements.{first_or_later, nothing_contained}
-use Rattle.lps_derivation.specs.Clauses.{Clause}
+use Rattle.lps_model.specs.Clauses.{Clause}
 use Rattle.lps_derivation.specs.Instances.{IsSmallCond, put_cond}
 use Rattle.lps_derivation.specs.Levels.{AreLevels}
 use Rattle.lps_unify.specs.Bindings.{TrailedBindings, standing, count_of, IsLawful}

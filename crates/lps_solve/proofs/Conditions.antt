@@ -10,7 +10,7 @@ use Rattle.lps_terms.specs.declared.lit.Lit.{Lit}
 use Rattle.lps_terms.specs.declared.term.Term.{Term}
 use Rattle.lps_terms.specs.Put.{put}
 use Rattle.lps_model.specs.VariableLists.{cond_vars}
-use Rattle.lps_derivation.specs.Clauses.{Clause}
+use Rattle.lps_model.specs.Clauses.{Clause}
 use Rattle.lps_derivation.specs.Instances.{IsSmallCond, put_cond}
 use Rattle.lps_unify.specs.Bindings.{TrailedBindings, standing, count_of, IsLawful}
 use Rattle.lps_unify.specs.Unified.{AreWithin}

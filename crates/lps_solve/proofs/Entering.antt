@@ -11,7 +11,7 @@ use Rattle.lps_terms.specs.declared.cond.Cond.{Cond}
 use Rattle.lps_terms.specs.declared.term.Term.{Term}
 use Rattle.lps_terms.specs.Put.{put, put-put, put-Var}
 use Rattle.lps_model.specs.VariableLists.{args_vars, cond_vars}
-use Rattle.lps_derivation.specs.Clauses.{Clause}
+use Rattle.lps_model.specs.Clauses.{Clause}
 use Rattle.lps_unify.specs.declared.added.Added.{Added}
 use Rattle.lps_unify.specs.declared.added.Added.TheVariants.{More}
 use Rattle.lps_unify.specs.Weights.{outside, weigh, IsWithin}

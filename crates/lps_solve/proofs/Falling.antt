@@ -24,11 +24,11 @@ use Rattle.lps_model.specs.Acceptance.{IsAccepted}
 use Rattle.lps_model.specs.Calls.{are_nested, calls, descends, is_called, is_inside_within, starred, starred_by, starred_of}
 use Rattle.lps_model.specs.Declarations.{decl_among, kind_among, kind_in}
 use Rattle.lps_model.specs.Known.{declared_needs, kind_needs, marked_vars}
-use Rattle.lps_model.specs.Levels.{AreLevels, IsLevel, level_among}
+use Rattle.lps_model.specs.Levels.{AreCallLevels, IsLevel, level_among}
 use Rattle.lps_model.specs.Program.{declarations}
 use Rattle.lps_model.specs.VariableLists.{args_vars, term_vars}
 use Rattle.lps_model.proofs.Elements.{first_is_contained, first_or_later, later_is_contained, nothing_contained}
-use Rattle.lps_derivation.specs.Clauses.{Clause, clauses}
+use Rattle.lps_model.specs.Clauses.{Clause, clauses}
 use Rattle.lps_derivation.specs.Instances.{put_cond}
 use Rattle.lps_derivation.proofs.Puts.{put_cond-put_cond}
 use Rattle.lps_unify.specs.Bindings.{TrailedBindings, standing, Solves, IsLawful}
@@ -220,7 +220,7 @@ nested_less f s (Some inner) (Some outer) (Some x) nested same closed small =
     let second = left_closed x none in
     omega (arith, less, size, few, first, second)
 
-module _ (text : Text) (accepted : IsAccepted text) (levels : List (List ℕ × ℕ)) (levelled : AreLevels (calls text) (level_among levels)) (clause : Clause) (among : Contains (clauses text) clause)
+module _ (text : Text) (accepted : IsAccepted text) (levels : List (List ℕ × ℕ)) (levelled : AreCallLevels (calls text) (level_among levels)) (clause : Clause) (among : Contains (clauses text) clause)
     (goal : Atom) (named : clause.head.name ≡ goal.name) (marked : IsMarked (declarations text) goal) (small : atom_symbols_of goal ≤ 1024) (f s : ℕ → Term)
     (same : map (put s) goal.args ≡ map (put f) clause.head.args) where
   abbrev decls : List Decl
@@ -318,7 +318,7 @@ module _ (text : Text) (levels : List (List ℕ × ℕ)) where
       mul-le-mul_right (stride text)
       (extended_lighter (declarations text) levels b lawful (standing new).value ((subst (λ (f : Bool). JoinsAllOn f b new terms row) one joins (standing new).value).0 (solves_itself new after)).0 base conds)
 
-  pub enter_falls : IsAccepted text → AreLevels (calls text) (level_among levels) → (clause : Clause) → Contains (clauses text) clause → (goal : Atom) → clause.head.name ≡ goal.name → IsMarked (declarations text) goal → atom_symbols_of goal ≤ 1024 →
+  pub enter_falls : IsAccepted text → AreCallLevels (calls text) (level_among levels) → (clause : Clause) → Contains (clauses text) clause → (goal : Atom) → clause.head.name ≡ goal.name → IsMarked (declarations text) goal → atom_symbols_of goal ≤ 1024 →
       (ext new : TrailedBindings) → IsLawful new → (base : ℕ) (wanted pattern : List Term) (conds : List Cond) → conds ≡ clause.conds → wanted ≡ goal.args → pattern ≡ map (put (shift base)) clause.head.args →
       (found : Bool) → JoinsAllOn found ext new wanted pattern → found ≡ true → (Weighs (values_in new base) conds ≤ height_of (declarations text) levels goal * stride text) × (length conds ≤ most_conditions (clauses text))
   enter_falls accepted levelled clause among goal named marked small ext new lawful base wanted pattern conds same_conds same_goal same_head found joins one =

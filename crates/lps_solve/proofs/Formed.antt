@@ -16,7 +16,7 @@ use Rattle.lps_terms.specs.Names.{is_proper_name}
 use Rattle.lps_terms.specs.Put.{put, put-Int, put-Sym, put-App, put-Var}
 use Rattle.lps_model.specs.Formed.{is_word, is_formed_term, is_formed_expr, is_formed_atom, is_formed_built, is_formed_cond, is_formed-Int, is_formed-Sym, is_formed-App, is_formed-Leaf, is_formed-Apply}
 use Rattle.lps_derivation.specs.Expressions.{put_expr, put_expr-Leaf, put_expr-Apply, expr_ind}
-use Rattle.lps_derivation.specs.Ground.{is_in_range, is_ground, is_ground-Int, is_ground-Sym, is_ground-App}
+use Rattle.lps_derivation.specs.Ground.{is_ground, is_ground-Int, is_ground-Sym, is_ground-App}
 use Rattle.lps_derivation.specs.Instances.{put_built, put_cond}
 use Rattle.lps_solve.specs.Answers.{IsWritten}
 use Rattle.lps_solve.specs.Met.{AreGround, is_ground_expr, IsGroundBuilt, IsGroundCond}
@@ -26,7 +26,7 @@ both_true : (p q : Bool) → p ≡ true → q ≡ true → (p && q) ≡ true
 both_true true q h k = k
 both_true false q h k = absurd (cc)
 
-in_range : (z : ℤ) → is_word z ≡ true → is_in_range z ≡ true
+in_range : (z : ℤ) → is_word z ≡ true → is_word z ≡ true
 in_range (pos n) h = h
 in_range (negsuc n) h = h
 

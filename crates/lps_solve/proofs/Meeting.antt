@@ -20,10 +20,11 @@ use Rattle.lps_terms.specs.Put.{put, put_atom}
 use Rattle.lps_terms.specs.Symbols.{symbols_of, symbols_of_all, atom_symbols_of, symbols_of-Int}
 use Rattle.lps_model.specs.VariableLists.{args_vars, built_vars, term_vars, expr_vars}
 use Rattle.lps_model.proofs.Elements.{first_or_later, first_is_contained, nothing_contained}
-use Rattle.lps_derivation.specs.Clauses.{Clause}
+use Rattle.lps_model.specs.Clauses.{Clause}
 use Rattle.lps_derivation.specs.Derivation.{Agrees}
 use Rattle.lps_derivation.specs.Expressions.{put_expr, expr_symbols_of}
-use Rattle.lps_derivation.specs.Ground.{is_ground, is_ground-Int, is_in_range}
+use Rattle.lps_derivation.specs.Ground.{is_ground, is_ground-Int}
+use Rattle.lps_model.specs.Formed.{is_word}
 use Rattle.lps_derivation.specs.Instances.{IsSmallBuilt, put_built, put_cond}
 use Rattle.lps_derivation.specs.Laws.{IsDerivedFrom}
 use Rattle.lps_derivation.specs.Levels.{AreLevels}
@@ -156,7 +157,7 @@ value_is (t.Sym n) z h = absurd (cc)
 value_is (App' n shape row) z h = absurd (cc)
 value_is (t.Var v) z h = absurd (cc)
 
-in_range : (z : ℤ) → FitsSigned w64 z → is_in_range z ≡ true
+in_range : (z : ℤ) → FitsSigned w64 z → is_word z ≡ true
 in_range (pos n) h = grind (arith, ints, nat_tests)
 in_range (negsuc n) h = grind (arith, ints, nat_tests)
 

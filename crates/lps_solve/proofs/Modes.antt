@@ -22,7 +22,7 @@ use Rattle.lps_model.specs.Declarations.{decl_among}
 use Rattle.lps_model.specs.Known.{Scope, are_known, body_unknown, built_needs, cond_needs, conds_unknown, declared_needs, head_known, is_known, kind_needs, learnt, marked_vars, argument_needs, same_needs, scope_at, unknown_among}
 use Rattle.lps_model.specs.Program.{declarations}
 use Rattle.lps_model.specs.VariableLists.{args_vars, atom_vars, cond_vars, expr_vars, term_vars}
-use Rattle.lps_derivation.specs.Clauses.{Clause, clauses}
+use Rattle.lps_model.specs.Clauses.{Clause, clauses}
 use Rattle.lps_derivation.specs.Ground.{is_ground}
 use Rattle.lps_derivation.specs.Instances.{put_built, put_cond}
 use Rattle.lps_unify.specs.Bindings.{TrailedBindings, standing, Solves, IsLawful}

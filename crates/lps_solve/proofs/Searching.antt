@@ -6,7 +6,7 @@ use Rattle.lps_terms.specs.declared.atom.Atom.{Atom}
 use Rattle.lps_terms.specs.declared.cond.Cond.{Cond}
 use Rattle.lps_terms.specs.declared.term.Term.{Term}
 use Rattle.lps_terms.specs.Put.{put}
-use Rattle.lps_derivation.specs.Clauses.{Clause}
+use Rattle.lps_model.specs.Clauses.{Clause}
 use Rattle.lps_derivation.specs.Instances.{put_cond}
 use Rattle.lps_unify.specs.Bindings.{TrailedBindings, standing, count_of, IsLawful}
 use Rattle.lps_unify.specs.Unified.{AreWithin, JoinsAllOn}

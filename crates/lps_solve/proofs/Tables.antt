@@ -10,7 +10,7 @@ use Rattle.std.proofs.Math.ListN.{get_or-append}
 use Rattle.std.proofs.lemmas.Bool.Decides.{nat_tests}
 use Rattle.std.proofs.lemmas.List.{get_or_push, length_push, length-map, map-append}
 use Rattle.std.proofs.lemmas.List.Elements.{Contains-push, Contains-push_cases, Contains-append_left}
-use Rattle.lps_derivation.specs.Clauses.{Clause}
+use Rattle.lps_model.specs.Clauses.{Clause}
 use Rattle.lps_solve.specs.declared.clause.Clause.{Clause as Entry}
 use Rattle.lps_solve.specs.Table.{clause_of, clause_at, clause_vars, IsPlaceOf, places_of, IsWithPlace, IsTable}
 use Rattle.lps_solve.proofs.Vars.{all_append}

@@ -9,7 +9,7 @@ use Rattle.lps_terms.specs.declared.term.Term.{Term}
 use Rattle.lps_terms.specs.Put.{put, after, put-put}
 use Rattle.lps_terms.specs.Symbols.{symbols_of_all}
 use Rattle.lps_model.proofs.Elements.{nothing_contained}
-use Rattle.lps_derivation.specs.Clauses.{Clause}
+use Rattle.lps_model.specs.Clauses.{Clause}
 use Rattle.lps_derivation.specs.Derivation.{IsMet, Follows}
 use Rattle.lps_derivation.specs.Instances.{IsSmallCond, put_cond, put_clause}
 use Rattle.lps_derivation.specs.Laws.{Passes, IsDerivedFrom}

@@ -11,9 +11,9 @@ use Rattle.lps_terms.specs.declared.text.Text.{Text}
 use Rattle.lps_model.specs.Acceptance.{IsAccepted}
 use Rattle.lps_model.specs.Calls.{calls}
 use Rattle.lps_model.specs.Formed.{is_formed}
-use Rattle.lps_model.specs.Levels.{AreLevels as AreLevelsIn, level_among}
+use Rattle.lps_model.specs.Levels.{AreCallLevels, level_among}
 use Rattle.lps_model.specs.VariableLists.{cond_vars}
-use Rattle.lps_derivation.specs.Clauses.{Clause}
+use Rattle.lps_model.specs.Clauses.{Clause}
 use Rattle.lps_derivation.specs.Instances.{IsSmall, IsSmallCond, put_clause, put_cond}
 use Rattle.lps_derivation.specs.Levels.{AreLevels}
 use Rattle.lps_unify.specs.Bindings.{TrailedBindings, standing, Solves}
@@ -60,4 +60,4 @@ pub record IsSearched (text : Text) (levels : List (List ℕ × ℕ)) (facts : L
   pub ground : (a : Atom) → Contains facts a → AreGround a.args
   pub accepted : IsAccepted text
   pub formed : IsTrue (is_formed text)
-  pub levelled : AreLevelsIn (calls text) (level_among levels)
+  pub levelled : AreCallLevels (calls text) (level_among levels)

@@ -6,7 +6,7 @@ use Rattle.lps_terms.specs.declared.cond.Cond.{Cond}
 use Rattle.lps_terms.specs.declared.term.Term.{Term}
 use Rattle.lps_terms.specs.Put.{put}
 use Rattle.lps_terms.specs.Symbols.{atom_symbols_of, symbols_of, symbols_of_all}
-use Rattle.lps_derivation.specs.Clauses.{Clause}
+use Rattle.lps_model.specs.Clauses.{Clause}
 use Rattle.lps_derivation.specs.Instances.{IsSmall}
 use Rattle.lps_derivation.specs.Laws.{IsDerivedFrom}
 use Rattle.lps_derivation.specs.Levels.{AreLevels}

@@ -11,7 +11,7 @@ use Rattle.lps_model.specs.Calls.{is_called, starred_of}
 use Rattle.lps_model.specs.Declarations.{kind_among}
 use Rattle.lps_model.specs.Levels.{level_among}
 use Rattle.lps_model.specs.VariableLists.{term_vars}
-use Rattle.lps_derivation.specs.Clauses.{Clause, clauses}
+use Rattle.lps_model.specs.Clauses.{Clause, clauses}
 use Rattle.lps_derivation.specs.Instances.{put_cond}
 
 -- what is left to descend on a term with these variables and so many symbols: its symbols once it is closed, and at most 1,024

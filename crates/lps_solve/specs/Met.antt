@@ -12,7 +12,7 @@ use Rattle.lps_terms.specs.declared.expr.Expr.TheFolds.{fold-Expr}
 use Rattle.lps_terms.specs.declared.term.Term.{Term}
 use Rattle.lps_terms.specs.Put.{put}
 use Rattle.lps_model.specs.VariableLists.{args_vars, built_vars}
-use Rattle.lps_derivation.specs.Clauses.{Clause}
+use Rattle.lps_model.specs.Clauses.{Clause}
 use Rattle.lps_derivation.specs.Derivation.{IsMet}
 use Rattle.lps_derivation.specs.Ground.{is_ground}
 use Rattle.lps_derivation.specs.Instances.{IsSmallBuilt, IsSmallCond, put_built, put_cond}

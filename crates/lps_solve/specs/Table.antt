@@ -1,14 +1,13 @@
 -- Where the clauses of each name stand.
 use Rattle.std.specs.Prelude.{ℕ, ◌≡◌, ◌<◌, ◌↔◌, List, [], ◌∷◌, ◌++◌, if◌then◌else◌, Option, None, Some, length, slice_index_or, map, Contains}
-use Rattle.std.specs.List.{AllByRecursion}
+use Rattle.std.specs.List.{AllByRecursion, flat_map}
 use Rattle.std.specs.Map.{lookup}
 use Rattle.std.specs.Str.{bytes_eq}
 use Rattle.std.specs.declared.vec.Vec.{Vec}
 use Rattle.std.specs.declared.alloc.Global.{Global}
 use Rattle.lps_terms.specs.declared.text.Text.{Text}
 use Rattle.lps_model.specs.VariableLists.{atom_vars, cond_vars}
-use Rattle.std.specs.List.{flat_map}
-use Rattle.lps_derivation.specs.Clauses.{Clause, clauses}
+use Rattle.lps_model.specs.Clauses.{Clause, clauses}
 use Rattle.lps_solve.specs.declared.clause.Clause.{Clause as Entry}
 
 -- the clause of an entry

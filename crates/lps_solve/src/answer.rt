@@ -8,7 +8,7 @@ ghost use Rattle.lps_terms.specs.declared.atom.Atom.{Atom};
 ghost use Rattle.lps_terms.specs.declared.term.Term.{Term as Value};
 ghost use Rattle.lps_terms.specs.declared.term.Term.TheVariants.{Var};
 ghost use Rattle.lps_model.specs.VariableLists.{cond_vars};
-ghost use Rattle.lps_derivation.specs.Clauses.{clauses};
+ghost use Rattle.lps_model.specs.Clauses.{clauses};
 ghost use Rattle.lps_derivation.specs.Instances.{IsSmallCond, put_cond};
 ghost use Rattle.lps_derivation.specs.Levels.{AreLevels};
 ghost use Rattle.lps_facts.specs.Facts.{members};

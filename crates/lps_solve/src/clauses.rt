@@ -1,7 +1,7 @@
 ghost use Rattle.std.specs.Prelude.{◌≡◌, ◌<◌, ◌++◌, ◌∷◌, [], ◌↔◌, ℕ, List, IfOk, OnOk, length, Contains};
 ghost use Rattle.std.specs.List.{AllByRecursion};
 ghost use Rattle.lps_terms.specs.declared.cond.Cond.{Cond as Condition};
-ghost use Rattle.lps_derivation.specs.Clauses.{clause_in, clauses};
+ghost use Rattle.lps_model.specs.Clauses.{clause_in, clauses};
 ghost use Rattle.lps_solve.specs.Table.{IsPlaceOf, IsWithPlace, clause_at, clause_of, clause_vars};
 
 use crate::clause::Clause;
@@ -23,7 +23,7 @@ pub(crate) struct Clauses {
 impl Model for Clauses {
     ghost use Rattle.lps_terms.specs.contracts.expr.Expr as expr;
     ghost use Rattle.lps_terms.specs.contracts.term.Term as term;
-    ghost use Rattle.lps_derivation.specs.Clauses.{Clause};
+    ghost use Rattle.lps_model.specs.Clauses.{Clause};
     ghost use Rattle.std.specs.Coded.{codes};
     ghost use Rattle.std.specs.Prelude.{List, map};
     ghost use Rattle.lps_solve.specs.Table.{IsTable, clause_of};

@@ -4,7 +4,7 @@ ghost use Rattle.lps_terms.specs.declared.atom.Atom.{Atom};
 ghost use Rattle.lps_terms.specs.declared.text.Text.{Text};
 ghost use Rattle.lps_model.specs.Acceptance.{IsAccepted};
 ghost use Rattle.lps_model.specs.Formed.{is_formed};
-ghost use Rattle.lps_derivation.specs.Clauses.{clauses};
+ghost use Rattle.lps_model.specs.Clauses.{clauses};
 ghost use Rattle.lps_solve.specs.Answers.{IsSound};
 ghost use Rattle.lps_solve.specs.Met.{AreGround};
 

@@ -5,7 +5,7 @@ ghost use Rattle.lps_terms.specs.declared.cond.Cond.TheVariants as Condition;
 ghost use Rattle.lps_model.specs.VariableLists.{args_vars, cond_vars};
 ghost use Rattle.lps_terms.specs.Symbols.{atom_symbols_of};
 ghost use Rattle.lps_model.specs.Program.{declarations};
-ghost use Rattle.lps_derivation.specs.Clauses.{clauses};
+ghost use Rattle.lps_model.specs.Clauses.{clauses};
 ghost use Rattle.lps_derivation.specs.Instances.{put_cond};
 ghost use Rattle.lps_facts.specs.Facts.{members};
 ghost use Rattle.lps_unify.specs.Bindings.{count_of, standing};

@@ -1,7 +1,7 @@
 use Rattle.std.proofs.Common.{map}
 use Rattle.indexmap.proofs.DrainLemmas.{same_flag}
 use Rattle.lps_terms.specs.declared.values.Values.{Values}
-use Rattle.lps_derivation.specs.Clauses.{clauses}
+use Rattle.lps_model.specs.Clauses.{clauses}
 use Rattle.lps_facts.specs.Facts.{members}
 use Rattle.lps_solve.proofs.Results.{OnOk-map}
 use Rattle.lps_causal.specs.Asked.{law_of, term_of}

@@ -1,5 +1,5 @@
 use Rattle.lps_values.specs.Truth.{is_true}
-use Rattle.lps_derivation.specs.Clauses.{clauses}
+use Rattle.lps_model.specs.Clauses.{clauses}
 use Rattle.lps_derivation.specs.Laws.{Passes}
 use Rattle.lps_derivation.proofs.Reach.{same_reached}
 use Rattle.lps_derivation.proofs.Truth.{equation}

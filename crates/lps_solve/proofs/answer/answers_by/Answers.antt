@@ -5,7 +5,7 @@ use Rattle.std.specs.Cmp.Lexicographic.{slice_cmp}
 use Rattle.lps_terms.specs.Order.{term_cmp}
 use Rattle.lps_terms.specs.declared.term.Term.{Term}
 use Rattle.lps_terms.specs.declared.term.Term.TheVariants.{Var}
-use Rattle.lps_derivation.specs.Clauses.{clauses}
+use Rattle.lps_model.specs.Clauses.{clauses}
 use Rattle.lps_derivation.specs.Levels.{AreLevels}
 use Rattle.lps_facts.specs.Facts.{members}
 use Rattle.lps_solve.specs.Answers.{AreLarge, IsAnswer, variables_left}

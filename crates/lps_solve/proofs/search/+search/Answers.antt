@@ -11,7 +11,7 @@ use Rattle.lps_model.specs.Program.{declarations}
 use Rattle.lps_model.specs.VariableLists.{cond_vars}
 use Rattle.lps_derivation.specs.Ground.{is_ground}
 use Rattle.lps_derivation.specs.Instances.{put_cond}
-use Rattle.lps_derivation.specs.Clauses.{clauses}
+use Rattle.lps_model.specs.Clauses.{clauses}
 use Rattle.lps_facts.specs.Facts.{members}
 use Rattle.lps_unify.specs.Bindings.{TrailedBindings, count_of}
 use Rattle.lps_unify.specs.Unified.{AreWithin, JoinsAllOn}

@@ -1,6 +1,6 @@
 use Rattle.std.proofs.Common.{◌≡◌, ◌+◌, ◌*◌, [], length, take}
 use Rattle.lps_model.specs.Program.{declarations}
-use Rattle.lps_derivation.specs.Clauses.{clauses}
+use Rattle.lps_model.specs.Clauses.{clauses}
 use Rattle.lps_derivation.specs.Instances.{put_cond}
 use Rattle.lps_facts.specs.Facts.{members}
 use Rattle.lps_solve.specs.Found.{ByClause, Gains, GainsBy, IsFactFor, ReachesBy}

@@ -2,7 +2,7 @@ use Rattle.std.proofs.Common.{ℕ, ◌≡◌, ◌↔◌, List, not, sym, subst}
 use Rattle.std.specs.Prelude.{Contains, ◌⊎◌}
 use Rattle.std.specs.List.{filter}
 use Rattle.lps_terms.specs.declared.atom.Atom.{Atom}
-use Rattle.lps_derivation.specs.Clauses.{clauses}
+use Rattle.lps_model.specs.Clauses.{clauses}
 use Rattle.lps_derivation.specs.Levels.{AreLevels}
 use Rattle.lps_facts.specs.Facts.{TrailedSet, is_among, members}
 use Rattle.lps_solve.proofs.Results.{IfOk-map}

@@ -3,7 +3,7 @@ use Rattle.std.specs.Prelude.{Contains}
 use Rattle.std.proofs.lemmas.List.Elements.{Contains-get_or}
 use Rattle.lps_terms.specs.declared.atom.Atom.{Atom}
 use Rattle.lps_model.specs.Program.{Law, laws}
-use Rattle.lps_derivation.specs.Clauses.{clauses}
+use Rattle.lps_model.specs.Clauses.{clauses}
 use Rattle.lps_facts.specs.Facts.{members}
 use Rattle.lps_solve.proofs.Gaining.{default_free}
 use Rattle.lps_causal.specs.Given.{ByOne, Gains, GivesAs}

@@ -1,5 +1,5 @@
 use Rattle.std.proofs.Common.{[], take}
-use Rattle.lps_derivation.specs.Clauses.{clauses}
+use Rattle.lps_model.specs.Clauses.{clauses}
 use Rattle.lps_facts.specs.Facts.{members}
 use Rattle.lps_causal.specs.Given.{ByOne, GainsBy, GivesAs}
 use Rattle.lps_causal.specs.Table.{law_at}

@@ -4,7 +4,7 @@ use Rattle.lps_terms.specs.declared.text.Text.{Text}
 use Rattle.lps_model.specs.Run.{AreInitial, first_trace}
 use Rattle.lps_facts.specs.Facts.{members, with_facts}
 use Rattle.lps_causal.specs.Names.{AreFluents}
-use Rattle.lps_meaning.specs.Rules.{rules}
+use Rattle.lps_model.specs.Rules.{rules}
 use Rattle.lps_cycle.specs.Engine.{EngineState, Stands}
 use Rattle.lps_cycle.proofs.Initial.{initial, initial_exact, initial_are_fluents, nothing}
 use Rattle.lps_cycle.proofs.Runs.{stands_first}

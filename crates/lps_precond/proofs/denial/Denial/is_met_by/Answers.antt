@@ -3,7 +3,7 @@ use Rattle.std.specs.Prelude.{Contains}
 use Rattle.std.specs.List.{flat_map}
 use Rattle.lps_terms.specs.declared.cond.Cond.{Cond}
 use Rattle.lps_model.specs.VariableLists.{cond_vars}
-use Rattle.lps_derivation.specs.Clauses.{clauses}
+use Rattle.lps_model.specs.Clauses.{clauses}
 use Rattle.lps_facts.specs.Facts.{members}
 use Rattle.lps_unify.specs.Bindings.{count_of}
 use Rattle.lps_unify.specs.Unified.{AreWithin, JoinsAllOn}

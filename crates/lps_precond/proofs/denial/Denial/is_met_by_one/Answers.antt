@@ -1,5 +1,5 @@
 use Rattle.lps_facts.specs.Facts.{members}
-use Rattle.lps_derivation.specs.Clauses.{clauses}
+use Rattle.lps_model.specs.Clauses.{clauses}
 use Rattle.lps_precond.proofs.Judging.{no_more_leave}
 use Rattle.lps_precond.proofs.denial.Denial.is_met_by_one.Goals as goal
 

@@ -1,6 +1,6 @@
 use Rattle.std.proofs.Common.{ℕ, List, take, map}
 use Rattle.lps_facts.specs.Facts.{members}
-use Rattle.lps_derivation.specs.Clauses.{clauses}
+use Rattle.lps_model.specs.Clauses.{clauses}
 use Rattle.lps_derivation.specs.Levels.{AreLevels}
 use Rattle.lps_precond.specs.Rows.{LeaveSome}
 use Rattle.lps_precond.proofs.denial.Denial.is_met_by_one.Given as goal

@@ -1,6 +1,6 @@
 use Rattle.std.proofs.Common.{◌≡◌, ◌∙◌, ◌<◌, true, List, length, map, get_or, sym, ap, subst, arith}
 use Rattle.std.specs.Prelude.{Contains}
-use Rattle.lps_derivation.specs.Clauses.{clauses}
+use Rattle.lps_model.specs.Clauses.{clauses}
 use Rattle.lps_terms.specs.declared.values.Values.{Values}
 use Rattle.lps_facts.specs.Facts.{members}
 use Rattle.lps_precond.specs.Cut.{Cut}

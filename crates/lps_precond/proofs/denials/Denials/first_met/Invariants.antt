@@ -1,7 +1,7 @@
 use Rattle.std.proofs.Common.{ℕ, List}
 use Rattle.lps_terms.specs.declared.atom.Atom.{Atom}
 use Rattle.lps_facts.specs.Facts.{members}
-use Rattle.lps_derivation.specs.Clauses.{clauses}
+use Rattle.lps_model.specs.Clauses.{clauses}
 use Rattle.lps_derivation.specs.Levels.{AreLevels}
 use Rattle.lps_precond.specs.Rows.{AreRowsOfAll, rows_in}
 use Rattle.lps_precond.proofs.Judging.{NoneUpTo}

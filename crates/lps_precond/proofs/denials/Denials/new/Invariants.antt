@@ -1,6 +1,6 @@
 use Rattle.std.proofs.Common.{◌≡◌, take, map}
 use Rattle.std.specs.List.{flat_map}
-use Rattle.lps_meaning.specs.Rules.{denial_in}
+use Rattle.lps_model.specs.Rules.{denial_in}
 use Rattle.lps_precond.specs.Cut.{cut}
 use Rattle.lps_precond.proofs.denials.Denials.new.Given as goal
 

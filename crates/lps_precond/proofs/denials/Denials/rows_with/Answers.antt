@@ -3,7 +3,7 @@ use Rattle.std.proofs.Common.{sym, subst}
 use Rattle.lps_terms.specs.declared.atom.Atom.{Atom}
 use Rattle.lps_facts.specs.Facts.{TrailedSet, members}
 use Rattle.lps_model.specs.Order.{happens}
-use Rattle.lps_meaning.specs.Rules.{kind_of}
+use Rattle.lps_model.specs.Rules.{kind_of}
 use Rattle.lps_solve.specs.Met.{AreGround}
 use Rattle.lps_precond.proofs.Alike.{both_ground, both_happened}
 use Rattle.lps_precond.proofs.denials.Denials.rows_with.Goals as goal

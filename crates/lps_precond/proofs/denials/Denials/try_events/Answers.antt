@@ -1,6 +1,6 @@
 use Rattle.std.proofs.Common.{List, subst}
 use Rattle.std.specs.Prelude.{true}
-use Rattle.lps_derivation.specs.Clauses.{clauses}
+use Rattle.lps_model.specs.Clauses.{clauses}
 use Rattle.lps_facts.specs.Facts.{members, with_effects, with_facts}
 use Rattle.lps_precond.specs.Cut.{Cut}
 use Rattle.lps_precond.specs.Judged.{IsJudged, IsLeast}

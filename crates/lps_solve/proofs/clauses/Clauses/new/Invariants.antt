@@ -1,6 +1,6 @@
 use Rattle.std.proofs.Common.{◌≡◌, take}
 use Rattle.std.specs.List.{flat_map}
-use Rattle.lps_derivation.specs.Clauses.{clause_in}
+use Rattle.lps_model.specs.Clauses.{clause_in}
 use Rattle.lps_solve.proofs.clauses.Clauses.new.Given as goal
 
 -- the clauses of the statements so far

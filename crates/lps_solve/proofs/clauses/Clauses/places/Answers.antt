@@ -1,6 +1,6 @@
 use Rattle.std.proofs.Common.{◌∙◌, ap, sym, subst, List, ℕ, ◌↔◌}
 use Rattle.std.specs.Prelude.{Contains}
-use Rattle.lps_derivation.specs.Clauses.{Clause}
+use Rattle.lps_model.specs.Clauses.{Clause}
 use Rattle.lps_solve.specs.Table.{IsPlaceOf, places_of, places_or_none}
 use Rattle.lps_solve.proofs.clauses.Clauses.places.Goals as goal
 

@@ -1,6 +1,6 @@
 use Rattle.std.proofs.Common.{◌∙◌, ◌↔◌, List, ap, subst}
 use Rattle.std.specs.Prelude.{Contains}
-use Rattle.lps_derivation.specs.Clauses.{Clause, clauses}
+use Rattle.lps_model.specs.Clauses.{Clause, clauses}
 use Rattle.lps_solve.specs.Table.{IsPlaceOf}
 use Rattle.lps_solve.proofs.program.Program.places.Goals as goal
 

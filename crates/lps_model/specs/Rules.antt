@@ -1,11 +1,10 @@
 -- What a text says of rules: its denials, reactive rules and macro clauses, each kind numbered from 1 in text order.
-use Rattle.std.specs.Prelude.{◌≡◌, ℕ, zero, suc, Bool, true, false, List, [], ◌∷◌, Option, Some, None, slice_get}
+use Rattle.std.specs.Prelude.{ℕ, zero, suc, Bool, true, false, List, [], ◌∷◌, Option, Some, None, slice_get}
 use Rattle.std.specs.List.{flat_map, filter}
 use Rattle.lps_terms.specs.declared.atom.Atom.{Atom}
 use Rattle.lps_terms.specs.declared.body.Body.{Body}
 use Rattle.lps_terms.specs.declared.body.Body.TheVariants as b
 use Rattle.lps_terms.specs.declared.item.Item.{Item}
-use Rattle.lps_terms.specs.declared.item.Item.TheVariants as i
 use Rattle.lps_terms.specs.declared.kind.Kind.{Kind}
 use Rattle.lps_terms.specs.declared.kind.Kind.TheVariants as k
 use Rattle.lps_terms.specs.declared.text.Text.{Text}
@@ -66,26 +65,3 @@ kind_of text name = kind_among (declarations text) name
 abbrev pub is_macro : Option Kind → Bool
 is_macro (Some k.Macro) = true
 is_macro _ = false
-
--- when the first step of a sequence begins
-abbrev pub first_begin : List Item → Option ℕ
-first_begin [] = None
-first_begin (i.At l time ∷ items) = Some time.0
-first_begin (i.Span a from to ∷ items) = Some from.0
-first_begin (_ ∷ items) = first_begin items
-
--- when its last step ends, or else what is given
-abbrev pub last_end_or : Option ℕ → List Item → Option ℕ
-last_end_or given [] = given
-last_end_or given (i.At l time ∷ items) = last_end_or (Some time.0) items
-last_end_or given (i.Span a from to ∷ items) = last_end_or (Some to.0) items
-last_end_or given (_ ∷ items) = last_end_or given items
-
--- the two times of a macro clause are the begin of its first step and the end of its last
-pub record IsFramed (clause : MacroClause) : Type 0 where
-  pub begin : first_begin clause.items ≡ Some clause.begin
-  pub end : last_end_or None clause.items ≡ Some clause.end
-
--- each macro clause of the text is framed
-pub record AreFramed (text : Text) : Type 0 where
-  pub each : (name : List ℕ) (number : ℕ) (clause : MacroClause) → numbered (clauses_of text name) number ≡ Some clause → IsFramed clause

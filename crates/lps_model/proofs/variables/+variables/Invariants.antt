@@ -1,6 +1,6 @@
 use Rattle.std.proofs.Common.{◌≡◌, drop}
 use Rattle.lps_model.specs.Variables.{have_variables}
-use Rattle.lps_kinds.proofs.statements.+variables.Given as goal
+use Rattle.lps_model.proofs.variables.+variables.Given as goal
 
 -- no argument so far holds a variable
 abbrev pub invariant-have_variables-loop-arg : goal.invariant-have_variables-loop-arg
