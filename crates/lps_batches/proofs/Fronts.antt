@@ -2,13 +2,13 @@
 use Rattle.std.specs.Prelude.{ℕ, suc, ◌≡◌, ◌+◌, ◌<◌, ◌≤◌, true, false, List, [], ◌∷◌, ◌++◌, length, refl}
 use Rattle.std.specs.List.{list_all}
 use Rattle.std.proofs.Common.{◌∙◌, ap, sym, subst, arith, append_assoc, length-append}
-use Rattle.lps_lines.specs.declared.ahead.Ahead as look
-use Rattle.lps_lines.specs.declared.front.Front.{Front}
-use Rattle.lps_lines.specs.declared.front.Front.TheVariants as front
-use Rattle.lps_lines.specs.Lines.{ahead, is_no_feed, is_skipped}
-use Rattle.lps_lines.specs.Stream.{IsLine, StandsAhead}
-use Rattle.lps_lines.specs.Stream as stands
-use Rattle.lps_lines.proofs.Standing.{ahead_stands}
+use Rattle.lps_batches.specs.declared.ahead.Ahead as look
+use Rattle.lps_batches.specs.declared.front.Front.{Front}
+use Rattle.lps_batches.specs.declared.front.Front.TheVariants as front
+use Rattle.lps_batches.specs.LookAhead.{ahead, is_no_feed, is_skipped}
+use Rattle.lps_batches.specs.LinesAhead.{IsLine, StandsAhead}
+use Rattle.lps_batches.specs.LinesAhead as stands
+use Rattle.lps_batches.proofs.Standing.{ahead_stands}
 use Rattle.lps_batches.specs.Stream.{Skipped}
 use Rattle.lps_batches.specs.Stream as stream
 

@@ -1,3 +1,6 @@
+pub mod FirstLine
+pub mod MoreBytes
+pub mod Standing
 pub mod Named
 pub mod Read
 pub mod Fronts
@@ -6,6 +9,4 @@ pub mod Parts
 pub mod OneWay
 pub mod Steps
 pub mod Cutting
-pub mod Calls
-pub mod Pieces
 pub mod Few

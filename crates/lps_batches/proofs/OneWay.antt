@@ -7,7 +7,7 @@ use Rattle.lps_terms.specs.declared.batch_kind.BatchKind.{BatchKind}
 use Rattle.lps_model.specs.declared.batch.Batch.{Batch}
 use Rattle.lps_lex.specs.Forms.{Stops}
 use Rattle.lps_lex.proofs.Runs.{run_is}
-use Rattle.lps_lines.specs.Lines.{is_no_feed}
+use Rattle.lps_batches.specs.LookAhead.{is_no_feed}
 use Rattle.lps_batches.specs.declared.batch_bad.BatchBad.{BatchBad}
 use Rattle.lps_batches.specs.Lines.{IsBadLine, IsBatchLine, IsLineRead, IsPassed}
 use Rattle.lps_batches.specs.Readings.{AreRead}

@@ -5,10 +5,10 @@ use Rattle.std.proofs.Common.{◌∙◌, ap, sym, subst, arith, append_assoc, le
 use Rattle.std.proofs.lemmas.List.{drop_at}
 use Rattle.std.proofs.Math.Seq.{drop-length}
 use Rattle.lps_terms.specs.declared.batch_kind.BatchKind.TheVariants as kind
-use Rattle.lps_lines.specs.declared.front.Front.{Front}
-use Rattle.lps_lines.specs.declared.front.Front.TheVariants as front
-use Rattle.lps_lines.specs.Lines.{is_skipped}
-use Rattle.lps_lines.specs.Stream.{IsLine}
+use Rattle.lps_batches.specs.declared.front.Front.{Front}
+use Rattle.lps_batches.specs.declared.front.Front.TheVariants as front
+use Rattle.lps_batches.specs.LookAhead.{is_skipped}
+use Rattle.lps_batches.specs.LinesAhead.{IsLine}
 use Rattle.lps_batches.specs.declared.outcome.Outcome.{Outcome}
 use Rattle.lps_batches.specs.declared.outcome.Outcome.TheVariants as outcome
 use Rattle.lps_batches.specs.Lines.{IsLineRead}

@@ -3,8 +3,8 @@ use Rattle.std.specs.Prelude.{ℕ, zero, suc, ◌≡◌, ◌≤◌, Bool, true, 
 use Rattle.std.specs.List.{list_all}
 use Rattle.std.proofs.Common.{◌∙◌, ap, sym, subst, arith}
 use Rattle.lps_lex.proofs.Bytes.{both}
-use Rattle.lps_lines.specs.Lines.{is_no_feed}
-use Rattle.lps_lines.specs.Stream.{IsLine}
+use Rattle.lps_batches.specs.LookAhead.{is_no_feed}
+use Rattle.lps_batches.specs.LinesAhead.{IsLine}
 use Rattle.lps_batches.specs.Stream.{NothingWhole, Reader}
 use Rattle.lps_batches.specs.Stream as stream
 

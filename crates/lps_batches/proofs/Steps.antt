@@ -9,7 +9,7 @@ use Rattle.lps_model.specs.declared.batch.Batch.{Batch}
 use Rattle.lps_lex.specs.Forms.{Stops}
 use Rattle.lps_lex.proofs.Bytes.{both}
 use Rattle.lps_lex.proofs.Runs.{behind, run_all, run_split, run_stops}
-use Rattle.lps_lines.specs.Lines.{is_no_feed}
+use Rattle.lps_batches.specs.LookAhead.{is_no_feed}
 use Rattle.lps_batches.specs.declared.batch_bad.BatchBad.{BatchBad}
 use Rattle.lps_batches.specs.Lines.{IsBadLine}
 use Rattle.lps_batches.specs.Readings.{AreRead}

@@ -1,3 +1,5 @@
+pub mod LookAhead
+pub mod LinesAhead
 pub mod Lines
 pub mod Outcomes
 pub mod Readings

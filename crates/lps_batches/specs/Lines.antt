@@ -6,8 +6,8 @@ use Rattle.lps_terms.specs.declared.batch_kind.BatchKind.TheVariants as kind
 use Rattle.lps_terms.specs.declared.lex_refused.LexRefused.{LexRefused}
 use Rattle.lps_model.specs.declared.batch.Batch.{Batch}
 use Rattle.lps_lex.specs.Lexing.{lexed}
-use Rattle.lps_lines.specs.Lines.{is_no_feed, is_skipped}
-use Rattle.lps_lines.specs.Stream.{IsLine}
+use Rattle.lps_batches.specs.LookAhead.{is_no_feed, is_skipped}
+use Rattle.lps_batches.specs.LinesAhead.{IsLine}
 use Rattle.lps_numbering.specs.Plain.{plain_toks}
 use Rattle.lps_grammar.specs.declared.tok.Tok.{Tok}
 use Rattle.lps_grammar.specs.Lines as gl

@@ -1,7 +1,7 @@
 -- What is made of the bytes of a stream that were not yet taken, and what it makes of the reader.
 use Rattle.std.specs.Prelude.{ℕ, ◌+◌, ◌≡◌, ◌≤◌, ◌⊎◌, List, [], ◌∷◌, ◌++◌, drop, Option, Some, None, Result, Ok, Err}
 use Rattle.lps_model.specs.declared.batch.Batch.{Batch}
-use Rattle.lps_lines.specs.Stream.{IsLine}
+use Rattle.lps_batches.specs.LinesAhead.{IsLine}
 use Rattle.lps_batches.specs.Lines.{IsBadLine, IsBatchLine, IsLineRead, IsPassed}
 use Rattle.lps_batches.specs.Stream.{BeginsBad, Reader, Skipped}
 use Rattle.lps_batches.specs.declared.batch_bad.BatchBad.{BatchBad}

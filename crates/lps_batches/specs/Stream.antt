@@ -4,8 +4,8 @@ use Rattle.std.specs.List.{list_all}
 use Rattle.lps_terms.specs.declared.batch_kind.BatchKind.{BatchKind}
 use Rattle.lps_terms.specs.declared.batch_kind.BatchKind.TheVariants as kind
 use Rattle.lps_model.specs.declared.batch.Batch.{Batch}
-use Rattle.lps_lines.specs.Lines.{is_no_feed}
-use Rattle.lps_lines.specs.Stream.{IsLine}
+use Rattle.lps_batches.specs.LookAhead.{is_no_feed}
+use Rattle.lps_batches.specs.LinesAhead.{IsLine}
 use Rattle.lps_batches.specs.Lines.{IsBadLine, IsBatchLine, IsPassed}
 use Rattle.lps_batches.specs.declared.batch_bad.BatchBad.{BatchBad}
 

@@ -1,13 +1,14 @@
 ghost use Rattle.std.specs.Prelude.{◌≡◌, ◌+◌, ◌<◌, ◌≤◌, ◌^◌, ◌++◌, [], drop, length, take, true, IfOk, OnOk, OnErr, None};
 ghost use Rattle.std.specs.List.{list_all};
-ghost use Rattle.lps_lines.specs.Lines.{is_no_feed};
-ghost use Rattle.lps_lines.specs.Stream.{IsLine};
+ghost use Rattle.lps_batches.specs.LookAhead.{is_no_feed};
+ghost use Rattle.lps_batches.specs.LinesAhead.{IsLine};
 ghost use Rattle.lps_batches.specs.Outcomes.{FitsIn, Settles};
 ghost use Rattle.lps_batches.specs.Stream.{Finish, Next};
 
+use crate::ahead::LONGEST_LINE;
 use crate::batch_bad::BatchBad;
+use crate::line_buffer::LineBuffer;
 use crate::outcome::{Outcome, end_outcome, next_outcome, rest_of};
-use lps_lines::{LONGEST_LINE, LineBuffer};
 use lps_model::Batch;
 use std::alloc::{AllocError, Global};
 use std::marker::Model;
@@ -26,7 +27,7 @@ pub struct BatchReader {
 impl Model for BatchReader {
     ghost use Rattle.std.specs.Prelude.{◌≡◌, ◌≤◌, length, take, true};
     ghost use Rattle.std.specs.List.{list_all};
-    ghost use Rattle.lps_lines.specs.Lines.{is_no_feed};
+    ghost use Rattle.lps_batches.specs.LookAhead.{is_no_feed};
     ghost use Rattle.lps_batches.specs.Stream.{Reader};
 
     ghost Value = { Reader };

@@ -1,11 +1,25 @@
 //! What holds of the definitions that the contracts cite.
-ghost use Rattle.std.specs.Prelude.{◌≡◌, ◌≤◌, ◌++◌, ℕ, List, Option, Result, Some, None, Ok, Err, length};
+ghost use Rattle.std.specs.Prelude.{◌≡◌, ◌≤◌, ◌↔◌, ◌++◌, ℕ, List, Option, Result, Some, None, Ok, Err, length};
 ghost use Rattle.lps_terms.specs.declared.batch_kind.BatchKind.{BatchKind};
 ghost use Rattle.lps_model.specs.declared.batch.Batch.{Batch};
+ghost use Rattle.lps_batches.specs.declared.ahead.Ahead.{Ahead};
 ghost use Rattle.lps_batches.specs.declared.batch_bad.BatchBad.{BatchBad};
 ghost use Rattle.lps_batches.specs.Lines.{IsLineRead, SpellsBatch};
+ghost use Rattle.lps_batches.specs.LinesAhead.{KeepsLines, StandsAhead};
+ghost use Rattle.lps_batches.specs.LookAhead.{ahead};
 ghost use Rattle.lps_batches.specs.Readings.{AreRead, Ended, History};
 ghost use Rattle.lps_batches.specs.Stream.{Finish, Next, Reader};
+
+/// Line by line, the rules for what stands ahead allow exactly one answer for any bytes, and it is that of the definition.
+pub fn lines_are_those_of_the_rules()
+    ensures { (bytes : List ℕ) (found : Ahead) → StandsAhead bytes found ↔ (ahead bytes ≡ found) }
+{}
+
+/// However a stream is cut, the same lines stand ahead. A whole line, or one that is too long, stays as more bytes come.
+/// Where the bytes end in the beginning of a line, that beginning is read again with the bytes that come.
+pub fn more_bytes_change_no_line()
+    ensures { (bytes more : List ℕ) → KeepsLines bytes more }
+{}
 
 /// A line is read in one way only.
 pub fn lines_are_read_one_way()

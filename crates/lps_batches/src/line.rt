@@ -6,10 +6,10 @@ ghost use Rattle.lps_syntax.specs.Judging.{IsLineVerdict};
 ghost use Rattle.lps_syntax.specs.declared.line_verdict.LineVerdict.TheVariants as verdict;
 ghost use Rattle.lps_batches.specs.Lines.{IsLineRead, line_toks};
 
+use crate::ahead::LONGEST_LINE;
 use lps_build::build_line;
 use lps_grammar::Tok;
 use lps_lex::{Lexed, lex};
-use lps_lines::LONGEST_LINE;
 use lps_model::Batch;
 use lps_numbering::plain_toks;
 use lps_syntax::{LineVerdict, judge_line};

@@ -1,11 +1,13 @@
 //! What is made of the bytes of a stream that were not yet taken.
 ghost use Rattle.std.specs.Prelude.{◌≡◌, ◌+◌, ◌≤◌, drop, length, slice_range, IfOk};
-ghost use Rattle.lps_lines.specs.Lines.{ahead};
-ghost use Rattle.lps_lines.specs.declared.front.Front.TheVariants as front;
+ghost use Rattle.lps_batches.specs.LookAhead.{ahead};
+ghost use Rattle.lps_batches.specs.declared.front.Front.TheVariants as front;
 ghost use Rattle.lps_batches.specs.Outcomes.{FitsIn, IsEndOutcome, IsOutcome, IsReadAs, IsWhole};
 
+use crate::ahead::{Ahead, look_ahead};
+use crate::front::Front;
 use crate::line::read_line;
-use lps_lines::{Ahead, Front, is_skipped, look_ahead};
+use crate::skipped::is_skipped;
 use lps_model::Batch;
 use lps_terms::BatchKind;
 use std::alloc::{AllocError, Global};

@@ -15,7 +15,7 @@ use Rattle.lps_grammar.specs.Statements as gs
 use Rattle.lps_numbering.specs.declared.names.Names.{Names}
 use Rattle.lps_numbering.specs.Numbers.{no_names, statements_of, toks_of}
 use Rattle.lps_build.specs.Meaning.{bodies_of, body_of, decls_of, modeds_of}
-use Rattle.lps_refusal.specs.Texts.{tokens_in}
+use Rattle.lps_reader.specs.Refusals.{tokens_in}
 use Rattle.lps_reader.specs.Texts.{IsTextOf, statements_made}
 use Rattle.lps_model.specs.Formed.{is_formed, is_formed_body, is_formed_statement}
 use Rattle.lps_model.specs.Program.{declarations, declared_in}

@@ -1,1 +1,5 @@
+mod First
+mod Numbering
+pub mod Refusals
+pub mod Unique
 pub mod Texts

@@ -14,8 +14,8 @@ use Rattle.lps_build.specs.Meaning.{bodies_of}
 use Rattle.lps_build.specs.Fits.{AreNamed}
 use Rattle.lps_build.specs.ReadStatements.{text_in}
 use Rattle.lps_build.proofs.StatementTrees.{read_text, text_found}
-use Rattle.lps_refusal.specs.Refusing.{line_at}
-use Rattle.lps_refusal.specs.Texts.{IsRefusedAs, tokens_in}
+use Rattle.lps_reader.specs.Refusing.{line_at}
+use Rattle.lps_reader.specs.Refusals.{IsRefusedAs, tokens_in}
 use Rattle.lps_reader.specs.Made.{line_of, made_in_lines}
 use Rattle.lps_reader.specs.Texts.{IsTextOf, statements_made}
 use Rattle.lps_batches.proofs.Named.{named_text}

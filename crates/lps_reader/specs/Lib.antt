@@ -1,2 +1,5 @@
+pub mod Judged
+pub mod Refusing
+pub mod Refusals
 pub mod Made
 pub mod Texts

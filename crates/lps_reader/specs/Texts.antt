@@ -9,8 +9,8 @@ use Rattle.lps_grammar.specs.Statements as gs
 use Rattle.lps_numbering.specs.declared.names.Names.{Names}
 use Rattle.lps_numbering.specs.Numbers.{statements_of, toks_of}
 use Rattle.lps_build.specs.Meaning.{bodies_of}
-use Rattle.lps_refusal.specs.Refusing.{line_at}
-use Rattle.lps_refusal.specs.Texts.{IsRefusal, IsRefusedAs, tokens_in}
+use Rattle.lps_reader.specs.Refusing.{line_at}
+use Rattle.lps_reader.specs.Refusals.{IsRefusal, IsRefusedAs, tokens_in}
 use Rattle.lps_reader.specs.declared.read_error.ReadError.{ReadError}
 use Rattle.lps_reader.specs.declared.read_error.ReadError.TheVariants.{NoMemory, Refused}
 

@@ -1,11 +1,11 @@
-ghost use Rattle.lps_refusal.specs.Texts.{IsNumberedText};
+ghost use Rattle.lps_reader.specs.Refusals.{IsNumberedText};
 ghost use Rattle.lps_reader.specs.Texts.{IsReadOf};
 
+use crate::judged_text::{NumberedText, numbered_text};
 use crate::read_error::ReadError;
 use crate::statements::{lines_of, statements};
 use lps_build::build_text;
 use lps_numbering::Numbered;
-use lps_refusal::{NumberedText, numbered_text};
 use lps_terms::Text;
 use std::alloc::Global;
 

@@ -13,11 +13,11 @@ use Rattle.lps_numbering.specs.declared.names.Names.{Names}
 use Rattle.lps_numbering.specs.Fixed.{reserved_tok, sign_tok}
 use Rattle.lps_numbering.specs.Numbers.{count_of, entered, is_full_stop, no_names, number_of, tok_of}
 use Rattle.lps_numbering.proofs.Alike.{BeginsWith, entered_goes_on, GoesOn, goes_trans, on_refl, stays_there}
-use Rattle.lps_canon.specs.Thinner.{is_light, Thinner}
-use Rattle.lps_canon.specs.Thinner as thinner
-use Rattle.lps_written.specs.Words.{kind_of, Word, word_of, written_as}
-use Rattle.lps_written.specs.Shown.{IsFine}
-use Rattle.lps_written.proofs.Pieces.{value_of-decimal}
+use Rattle.lps_roundtrip.specs.Thinner.{is_light, Thinner}
+use Rattle.lps_roundtrip.specs.Thinner as thinner
+use Rattle.lps_roundtrip.specs.Words.{kind_of, Word, word_of, written_as}
+use Rattle.lps_roundtrip.specs.Shown.{IsFine}
+use Rattle.lps_roundtrip.proofs.Pieces.{value_of-decimal}
 use Rattle.lps_roundtrip.specs.Numbered.{crowded_by, names_by, statements_by, toks_by}
 use Rattle.lps_roundtrip.specs.Along.{AreFineAlong, is_dot, words_along}
 use Rattle.lps_roundtrip.proofs.Fixed.{fixed_fine, IsWrittenSo, reserved_no_dot, reserved_written, sign_no_dot, sign_written}

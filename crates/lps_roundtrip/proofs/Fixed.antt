@@ -13,8 +13,8 @@ use Rattle.lps_lex.specs.declared.token_kind.TokenKind.TheVariants as kind
 use Rattle.lps_lex.proofs.Words.{passes_in}
 use Rattle.lps_numbering.specs.declared.names.Names.{Names}
 use Rattle.lps_numbering.specs.Fixed.{reserved_tok, sign_tok}
-use Rattle.lps_written.specs.Words.{kind_of, written_as}
-use Rattle.lps_written.specs.Shown.{IsFine}
+use Rattle.lps_roundtrip.specs.Words.{kind_of, written_as}
+use Rattle.lps_roundtrip.specs.Shown.{IsFine}
 use Rattle.lps_roundtrip.specs.Along.{is_dot}
 
 -- a token whose text is fixed

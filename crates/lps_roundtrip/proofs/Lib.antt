@@ -1,3 +1,16 @@
+pub mod Meanings
+pub mod Thins
+pub mod Growth
+pub mod Small
+pub mod Shortest
+pub mod Read
+pub mod Pieces
+pub mod Writes
+pub mod TermTexts
+pub mod Expressions
+pub mod ItemTexts
+pub mod StatementTexts
+pub mod Lines
 pub mod Again
 pub mod Cuts
 pub mod Fixed

@@ -4,7 +4,7 @@ use Rattle.std.proofs.Common.{ap}
 use Rattle.lps_lex.specs.declared.token.Token.{Token}
 use Rattle.lps_numbering.specs.declared.names.Names.{Names}
 use Rattle.lps_numbering.specs.Numbers.{count_of, crowded_from, is_full_stop, names_after, statements_from, text_of, tok_of, toks_from}
-use Rattle.lps_written.specs.Words.{words_in}
+use Rattle.lps_roundtrip.specs.Words.{words_in}
 use Rattle.lps_roundtrip.specs.Numbered.{crowded_by, statements_by, toks_by}
 
 pub toks_are : (bytes : List ℕ) (so_far : Names) (tokens : List Token) → toks_from bytes so_far tokens ≡ toks_by so_far (words_in bytes tokens)

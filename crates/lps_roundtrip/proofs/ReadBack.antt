@@ -17,20 +17,20 @@ use Rattle.lps_grammar.specs.Statements as gs
 use Rattle.lps_numbering.specs.declared.names.Names.{Names}
 use Rattle.lps_numbering.specs.Numbers.{crowded_of, no_names, statements_of, toks_of}
 use Rattle.lps_build.specs.Meaning.{bodies_of}
-use Rattle.lps_canon.specs.Canonical.{canonical_text}
-use Rattle.lps_canon.specs.Thinner.{Thinner}
-use Rattle.lps_canon.proofs.Small.{small_stays}
-use Rattle.lps_canon.proofs.Thins.{none_left_out, text_thins}
+use Rattle.lps_roundtrip.specs.Canonical.{canonical_text}
+use Rattle.lps_roundtrip.specs.Thinner.{Thinner}
+use Rattle.lps_roundtrip.proofs.Small.{small_stays}
+use Rattle.lps_roundtrip.proofs.Thins.{none_left_out, text_thins}
 use Rattle.lps_syntax.specs.Judging.{IsSmallText}
 use Rattle.lps_syntax.proofs.Unique.{begins_before, small_before}
-use Rattle.lps_refusal.specs.Refusing.{IsFirstRefusal}
-use Rattle.lps_refusal.specs.Texts.{IsRefusal, IsRefusedAs, IsShort, tokens_in}
+use Rattle.lps_reader.specs.Refusing.{IsFirstRefusal}
+use Rattle.lps_reader.specs.Refusals.{IsRefusal, IsRefusedAs, IsShort, tokens_in}
 use Rattle.lps_printer.specs.Statements.{canonical, statement_text}
-use Rattle.lps_written.specs.Words.{Word, words_in}
-use Rattle.lps_written.specs.Shown.{Shown}
-use Rattle.lps_written.specs.Lines.{AreAllFine, AreOf}
-use Rattle.lps_written.proofs.Lines.{text_shown}
-use Rattle.lps_written.proofs.Read.{shown_lexed}
+use Rattle.lps_roundtrip.specs.Words.{Word, words_in}
+use Rattle.lps_roundtrip.specs.Shown.{Shown}
+use Rattle.lps_roundtrip.specs.Lines.{AreAllFine, AreOf}
+use Rattle.lps_roundtrip.proofs.Lines.{text_shown}
+use Rattle.lps_roundtrip.proofs.Read.{shown_lexed}
 use Rattle.lps_roundtrip.specs.Along.{AreFineAlong, words_along}
 use Rattle.lps_roundtrip.specs.Numbered.{crowded_by, statements_by, toks_by}
 use Rattle.lps_reader.specs.declared.read_error.ReadError.{ReadError}

@@ -12,12 +12,12 @@ use Rattle.lps_grammar.specs.Statements.{spell_statement, spell_text}
 use Rattle.lps_grammar.specs.Statements as gs
 use Rattle.lps_numbering.specs.declared.names.Names.{Names}
 use Rattle.lps_build.specs.Meaning.{bodies_of, body_of}
-use Rattle.lps_canon.specs.Canonical.{canonical_statement, canonical_text}
-use Rattle.lps_canon.proofs.Meanings.{statement_means}
-use Rattle.lps_refusal.specs.Refusing.{line_at}
-use Rattle.lps_written.specs.Words.{Word, word_at, word_of, words_of}
-use Rattle.lps_written.specs.Shown.{AreFine}
-use Rattle.lps_written.specs.Lines.{AreAllFine, AreOf, words_of_text}
+use Rattle.lps_roundtrip.specs.Canonical.{canonical_statement, canonical_text}
+use Rattle.lps_roundtrip.proofs.Meanings.{statement_means}
+use Rattle.lps_reader.specs.Refusing.{line_at}
+use Rattle.lps_roundtrip.specs.Words.{Word, word_at, word_of, words_of}
+use Rattle.lps_roundtrip.specs.Shown.{AreFine}
+use Rattle.lps_roundtrip.specs.Lines.{AreAllFine, AreOf, words_of_text}
 use Rattle.lps_roundtrip.specs.Along.{AreFineAlong, words_along}
 use Rattle.lps_reader.specs.Texts.{statements_made}
 use Rattle.lps_roundtrip.specs.RoundTrip.{statements_in_lines}

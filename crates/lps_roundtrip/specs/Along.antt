@@ -3,8 +3,8 @@ use Rattle.std.specs.Prelude.{ℕ, suc, Bool, true, false, List, [], ◌∷◌, 
 use Rattle.lps_grammar.specs.declared.tok.Tok.{Tok}
 use Rattle.lps_grammar.specs.declared.tok.Tok.TheVariants as k
 use Rattle.lps_numbering.specs.declared.names.Names.{Names}
-use Rattle.lps_written.specs.Words.{Word, word_of}
-use Rattle.lps_written.specs.Shown.{IsFine}
+use Rattle.lps_roundtrip.specs.Words.{Word, word_of}
+use Rattle.lps_roundtrip.specs.Shown.{IsFine}
 
 -- the full stop
 abbrev pub is_dot : Tok → Bool

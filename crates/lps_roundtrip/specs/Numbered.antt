@@ -3,7 +3,7 @@ use Rattle.std.specs.Prelude.{ℕ, suc, List, [], ◌∷◌, ◌++◌, nat_lt, i
 use Rattle.lps_grammar.specs.declared.tok.Tok.{Tok}
 use Rattle.lps_numbering.specs.declared.names.Names.{Names}
 use Rattle.lps_numbering.specs.Numbers.{count_of, entered, is_full_stop, no_names, tok_of}
-use Rattle.lps_written.specs.Words.{Word}
+use Rattle.lps_roundtrip.specs.Words.{Word}
 
 -- the names of the statement after a word: a full stop ends it, and the next has none yet
 abbrev pub names_by : Names → Word → Names

@@ -6,8 +6,8 @@ use Rattle.std.proofs.lemmas.Bool.{eqb-true, not-false}
 use Rattle.std.proofs.lemmas.List.Folds.{list_all-append}
 use Rattle.lps_terms.specs.declared.batch_kind.BatchKind.TheVariants.{LineTooLong}
 use Rattle.lps_lex.proofs.Bytes.{both}
-use Rattle.lps_lines.specs.Lines.{is_no_feed}
-use Rattle.lps_lines.specs.Stream.{IsLine}
+use Rattle.lps_batches.specs.LookAhead.{is_no_feed}
+use Rattle.lps_batches.specs.LinesAhead.{IsLine}
 use Rattle.lps_batches.specs.Lines.{IsBadLine}
 
 abbrev tail_of : List ℕ → List ℕ

@@ -7,7 +7,7 @@ use Rattle.lps_terms.specs.declared.batch_kind.BatchKind.{BatchKind}
 use Rattle.lps_terms.specs.declared.text.Text.{Text}
 use Rattle.lps_model.specs.declared.batch.Batch.{Batch}
 use Rattle.lps_lex.proofs.Bytes.{both}
-use Rattle.lps_lines.specs.Lines.{is_no_feed}
+use Rattle.lps_batches.specs.LookAhead.{is_no_feed}
 use Rattle.lps_batches.specs.declared.batch_bad.BatchBad.{BatchBad}
 use Rattle.lps_batches.specs.Lines.{IsBatchLine, IsPassed}
 use Rattle.lps_batches.proofs.Read.{one_reading}

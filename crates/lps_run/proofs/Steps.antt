@@ -13,7 +13,7 @@ use Rattle.lps_model.specs.declared.trace.Trace.{Trace}
 use Rattle.lps_model.specs.Trace.{no_cycle, then_cycle}
 use Rattle.lps_model.specs.Run.{first_trace}
 use Rattle.lps_meaning.specs.Laws.{BlocksStay}
-use Rattle.lps_lines.specs.Stream.{IsLine}
+use Rattle.lps_batches.specs.LinesAhead.{IsLine}
 use Rattle.lps_batches.specs.declared.batch_bad.BatchBad.{BatchBad}
 use Rattle.lps_batches.specs.Lines.{IsBadLine}
 use Rattle.lps_batches.specs.Stream.{Ahead, BeginsBad, MeetsBad, MeetsBadLast, MetBefore, NothingLeft, NothingWhole, Reader, TakesBatch, TakesLast}

@@ -5,7 +5,7 @@ use Rattle.lps_terms.specs.declared.text.Text.{Text}
 use Rattle.lps_terms.specs.declared.text_refused.TextRefused.{TextRefused as Reason}
 use Rattle.lps_terms.specs.declared.text_refused.TextRefused.TheVariants as reason
 use Rattle.lps_model.specs.Acceptance.{IsAccepted, IsRefusedFor}
-use Rattle.lps_refusal.specs.Texts.{IsRefusal}
+use Rattle.lps_reader.specs.Refusals.{IsRefusal}
 use Rattle.lps_printer.specs.Statements.{canonical}
 use Rattle.lps_reader.specs.Texts.{IsTextOf}
 use Rattle.lps_outside.specs.Bytes.{IsFront, Stream}

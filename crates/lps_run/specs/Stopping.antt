@@ -5,7 +5,7 @@ use Rattle.lps_terms.specs.declared.text.Text.{Text}
 use Rattle.lps_model.specs.declared.trace.Trace.{Trace}
 use Rattle.lps_cycle.specs.Engine.{IsRunOver}
 use Rattle.lps_batches.specs.declared.batch_bad.BatchBad.{BatchBad}
-use Rattle.lps_lines.specs.Stream.{IsLine}
+use Rattle.lps_batches.specs.LinesAhead.{IsLine}
 use Rattle.lps_outside.specs.Bytes.{IsFront, Stream}
 use Rattle.lps_outside.specs.Causes.{Rose}
 use Rattle.lps_run.specs.declared.stop.Stop.{Stop}

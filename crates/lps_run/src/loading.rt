@@ -3,7 +3,7 @@ ghost use Rattle.lps_run.specs.Loading.{FailsOnlyLong, IsMore, LoadCounted};
 ghost use Rattle.lps_run.specs.declared.loading.LoadError.TheVariants.{NoMemory};
 
 use lps_outside::Texts;
-use lps_refusal::LONGEST_TEXT;
+use lps_reader::LONGEST_TEXT;
 use std::alloc::{AllocError, AllocFailed, Global};
 
 /// How many reads reach the end of the longest text or pass its limit.

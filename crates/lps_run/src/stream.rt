@@ -75,7 +75,7 @@ fn block_of(alloc: Global, number: u64, cycle: &Cycle, facts: &Facts) -> Result<
 }
 
 impl Running {
-    ghost use Rattle.lps_lines.specs.Stream.{IsLine};
+    ghost use Rattle.lps_batches.specs.LinesAhead.{IsLine};
     ghost use Rattle.lps_run.specs.Judged.{WasRead, ended};
     ghost use Rattle.lps_run.specs.Running.{Due, Standing, Reading, Finished};
 

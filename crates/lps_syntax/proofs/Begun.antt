@@ -6,8 +6,8 @@ use Rattle.lps_grammar.specs.declared.tok.Tok.TheVariants as k
 use Rattle.lps_grammar.specs.Terms as te
 use Rattle.lps_grammar.specs.Lines as li
 use Rattle.lps_grammar.specs.Sizes as sz
-use Rattle.lps_predict.specs.declared.frame.Frame.{Frame}
-use Rattle.lps_predict.specs.declared.frame.Frame.TheVariants as f
+use Rattle.lps_syntax.specs.declared.frame.Frame.{Frame}
+use Rattle.lps_syntax.specs.declared.frame.Frame.TheVariants as f
 use Rattle.lps_syntax.specs.Counts as c
 
 abbrev tally : List Frame → ℕ → List Tok → List ℕ

@@ -1,3 +1,6 @@
+pub mod Complete
+pub mod Sound
+pub mod Running
 pub mod Symbols
 pub mod Begun
 pub mod Tallies

@@ -10,9 +10,9 @@ use Rattle.lps_grammar.specs.Items as it
 use Rattle.lps_grammar.specs.Statements as st
 use Rattle.lps_grammar.specs.Lines as li
 use Rattle.lps_grammar.specs.Sizes as sz
-use Rattle.lps_predict.specs.declared.frame.Frame.{Frame}
-use Rattle.lps_predict.specs.declared.frame.Frame.TheVariants as f
-use Rattle.lps_stack.proofs.Complete.{mul_is_op, add_is_op}
+use Rattle.lps_syntax.specs.declared.frame.Frame.{Frame}
+use Rattle.lps_syntax.specs.declared.frame.Frame.TheVariants as f
+use Rattle.lps_syntax.proofs.Complete.{mul_is_op, add_is_op}
 use Rattle.lps_syntax.specs.Counts as c
 
 abbrev tally : List Frame → ℕ → List Tok → List ℕ

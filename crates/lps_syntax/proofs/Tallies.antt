@@ -4,8 +4,8 @@ use Rattle.std.proofs.Common.{◌∙◌, sym, ap, subst, get_or, arith}
 use Rattle.std.proofs.lemmas.List.{take_more}
 use Rattle.std.proofs.lemmas.List.Elements.{All-append, All-cons, All-nil, All-head, All-tail, All-take}
 use Rattle.lps_grammar.specs.declared.tok.Tok.{Tok}
-use Rattle.lps_predict.specs.declared.frame.Frame.{Frame}
-use Rattle.lps_stack.specs.Runs.{run, step, taker, then_on}
+use Rattle.lps_syntax.specs.declared.frame.Frame.{Frame}
+use Rattle.lps_syntax.specs.Runs.{run, step, taker, then_on}
 use Rattle.lps_syntax.specs.Counts.{counts, count_step, counts_if, count_if}
 
 -- ---- counting

@@ -6,7 +6,7 @@ use Rattle.lps_grammar.specs.declared.tok.Tok.{Tok}
 use Rattle.lps_grammar.specs.Statements.{Text, IsText, BeginsText}
 use Rattle.lps_grammar.specs.Lines.{Line, IsLine, BeginsLine}
 use Rattle.lps_grammar.specs.Sizes.{begun_line}
-use Rattle.lps_stack.proofs.Running.{begun_runs}
+use Rattle.lps_syntax.proofs.Running.{begun_runs}
 use Rattle.lps_syntax.specs.Counts.{symbols_after, events_after}
 use Rattle.lps_syntax.specs.Judging.{IsSmallText, IsSmallLine, HasFewEvents, IsTextVerdict, IsLineVerdict}
 use Rattle.lps_syntax.specs.declared.text_verdict.TextVerdict.{TextVerdict}

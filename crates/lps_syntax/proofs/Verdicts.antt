@@ -5,18 +5,18 @@ use Rattle.lps_grammar.specs.declared.tok.Tok.{Tok}
 use Rattle.lps_grammar.specs.Statements.{Text, spell_text}
 use Rattle.lps_grammar.specs.Lines.{Line, spell_line}
 use Rattle.lps_grammar.specs.Sizes.{symbols_text, symbols_line, begun_line}
-use Rattle.lps_predict.specs.declared.frame.Frame.{Frame}
-use Rattle.lps_predict.specs.declared.frame.Frame.TheVariants as f
-use Rattle.lps_stack.specs.Runs.{run, step}
-use Rattle.lps_stack.proofs.Complete.{through_text, through_line}
-use Rattle.lps_stack.proofs.Sound.{begins_text, is_text, begins_line, is_line}
+use Rattle.lps_syntax.specs.declared.frame.Frame.{Frame}
+use Rattle.lps_syntax.specs.declared.frame.Frame.TheVariants as f
+use Rattle.lps_syntax.specs.Runs.{run, step}
+use Rattle.lps_syntax.proofs.Complete.{through_text, through_line}
+use Rattle.lps_syntax.proofs.Sound.{begins_text, is_text, begins_line, is_line}
 use Rattle.lps_syntax.specs.Counts.{counts, count_step, symbols_after, events_after}
 use Rattle.lps_syntax.specs.Judging.{IsSmallText, HasFewEvents, KeepsLimits, IsTextVerdict, IsLineVerdict}
 use Rattle.lps_syntax.specs.declared.text_verdict.TextVerdict.TheVariants as tv
 use Rattle.lps_syntax.specs.declared.line_verdict.LineVerdict.TheVariants as lv
 use Rattle.lps_syntax.proofs.Symbols.{text_symbols, line_symbols}
 use Rattle.lps_syntax.proofs.Begun.{line_begun}
-use Rattle.lps_stack.proofs.Running.{run_more, none_begins, none_spelled}
+use Rattle.lps_syntax.proofs.Running.{run_more, none_begins, none_spelled}
 use Rattle.lps_syntax.proofs.Tallies.{Within, within_none, within_more, past_limit, fits, fits_not}
 
 -- ---- texts

@@ -3,9 +3,9 @@ use Rattle.std.specs.Prelude.{ℕ, ◌+◌, List, [], ◌∷◌, Option, Some, N
 use Rattle.lps_grammar.specs.declared.tok.Tok.{Tok}
 use Rattle.lps_grammar.specs.declared.tok.Tok.TheVariants as k
 use Rattle.lps_grammar.specs.Signs.{is_op}
-use Rattle.lps_predict.specs.declared.frame.Frame.{Frame}
-use Rattle.lps_predict.specs.declared.frame.Frame.TheVariants as f
-use Rattle.lps_stack.specs.Runs.{step, taker}
+use Rattle.lps_syntax.specs.declared.frame.Frame.{Frame}
+use Rattle.lps_syntax.specs.declared.frame.Frame.TheVariants as f
+use Rattle.lps_syntax.specs.Runs.{step, taker}
 
 -- ---- symbols
 

@@ -1,2 +1,4 @@
+pub mod Moves
+pub mod Runs
 pub mod Counts
 pub mod Judging

@@ -3,8 +3,8 @@ ghost use Rattle.std.specs.Prelude.{◌≡◌, ◌≤◌};
 ghost use Rattle.lps_grammar.specs.declared.tok.Tok.{Tok};
 ghost use Rattle.lps_syntax.specs.Counts.{events_after, symbols_after, symbols_at_first, symbols_at_start};
 
+use crate::frame::Frame;
 use lps_grammar::Tok;
-use lps_predict::Frame;
 
 /// The greatest number of symbols of an atom, a side or an expression.
 pub const MAX_SYMBOLS: u32 = 1024;

@@ -2,9 +2,9 @@ ghost use Rattle.std.specs.Prelude.{IfOk};
 ghost use Rattle.lps_syntax.specs.Judging.{IsLineVerdict};
 
 use crate::count::{MAX_EVENTS, MAX_SYMBOLS, events_after, symbols_after};
+use crate::expected::Expected;
 use crate::line_verdict::LineVerdict;
 use lps_grammar::Tok;
-use lps_stack::Expected;
 use std::alloc::{AllocError, Global};
 
 /// What is judged of these tokens as a line of events.

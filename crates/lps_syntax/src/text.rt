@@ -2,9 +2,9 @@ ghost use Rattle.std.specs.Prelude.{IfOk};
 ghost use Rattle.lps_syntax.specs.Judging.{IsTextVerdict};
 
 use crate::count::{MAX_SYMBOLS, symbols_after};
+use crate::expected::Expected;
 use crate::text_verdict::TextVerdict;
 use lps_grammar::Tok;
-use lps_stack::Expected;
 use std::alloc::{AllocError, Global};
 
 /// What is judged of these tokens as a text.

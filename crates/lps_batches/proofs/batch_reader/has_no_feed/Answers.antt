@@ -2,7 +2,7 @@ use Rattle.std.proofs.Common.{rules, tests}
 use Rattle.std.proofs.lemmas.Iterator.{YieldsList-from_slice}
 use Rattle.std.proofs.lemmas.Iterator.Consumers.{YieldsList-from_copied}
 use Rattle.std.proofs.lemmas.Iterator.Search.{all_from_yields_List}
-use Rattle.lps_lines.specs.Lines.{is_no_feed}
+use Rattle.lps_batches.specs.LookAhead.{is_no_feed}
 use Rattle.lps_batches.proofs.batch_reader.has_no_feed.Goals as goal
 
 pub returns : goal.returns

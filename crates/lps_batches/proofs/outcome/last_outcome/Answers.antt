@@ -1,6 +1,6 @@
 use Rattle.std.proofs.Common.{arith, ◌∙◌, sym, length, subst}
 use Rattle.std.proofs.lemmas.Result.{IfOk-weaker}
-use Rattle.lps_lines.specs.declared.front.Front.TheVariants as front
+use Rattle.lps_batches.specs.declared.front.Front.TheVariants as front
 use Rattle.lps_batches.specs.Outcomes.{FitsIn, IsEndOutcome}
 use Rattle.lps_batches.proofs.Fronts.{Found, found_ahead}
 use Rattle.lps_batches.proofs.Outcomes.{few_lines, last_outcome, read_fits, skipped_outcome, some_last}

@@ -1,6 +1,6 @@
 use Rattle.std.proofs.Common.{arith, ◌+◌, length, subst}
 use Rattle.std.proofs.lemmas.Result.{IfOk-weaker}
-use Rattle.lps_lines.specs.declared.front.Front.TheVariants as front
+use Rattle.lps_batches.specs.declared.front.Front.TheVariants as front
 use Rattle.lps_batches.specs.Outcomes.{FitsIn, IsOutcome, IsWhole}
 use Rattle.lps_batches.proofs.Fronts.{Found, found_ahead}
 use Rattle.lps_batches.proofs.Outcomes.{few_lines, line_within, long_outcome, part_outcome, read_fits, read_whole, whole_outcome, within}

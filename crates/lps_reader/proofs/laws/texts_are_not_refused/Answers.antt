@@ -1,4 +1,4 @@
-use Rattle.lps_refusal.proofs.Unique.{none}
+use Rattle.lps_reader.proofs.Unique.{none}
 use Rattle.lps_reader.proofs.laws.texts_are_not_refused.Goals as goal
 
 pub returns : goal.returns

@@ -3,7 +3,7 @@ use Rattle.lps_lex.specs.declared.token.Token.{Token}
 use Rattle.lps_grammar.specs.declared.tok.Tok.{Tok}
 use Rattle.lps_build.specs.Fits.{AreNamed}
 use Rattle.lps_build.specs.Meaning.{bodies_of}
-use Rattle.lps_refusal.specs.Texts.{tokens_in}
+use Rattle.lps_reader.specs.Refusals.{tokens_in}
 use Rattle.lps_reader.specs.Made.{made_in_lines}
 use Rattle.lps_reader.specs.Texts.{statements_made}
 use Rattle.lps_reader.proofs.Texts.{made_same, named, tree_of}

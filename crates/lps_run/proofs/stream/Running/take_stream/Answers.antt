@@ -4,7 +4,7 @@ use Rattle.std.proofs.lemmas.Result.{err_from_is_err_and, IfErr-at_err}
 use Rattle.lps_terms.specs.declared.text.Text.{Text}
 use Rattle.lps_outside.specs.Bytes.{Stream}
 use Rattle.lps_batches.specs.Stream.{Reader}
-use Rattle.lps_lines.specs.Stream.{IsLine}
+use Rattle.lps_batches.specs.LinesAhead.{IsLine}
 use Rattle.lps_run.specs.Judged.{ended}
 use Rattle.lps_run.specs.Running.{Standing, Finished}
 use Rattle.lps_run.specs.Stopping.{Stopped, StopsAtLine}

@@ -1,5 +1,0 @@
-pub mod Meanings
-pub mod Thins
-pub mod Growth
-pub mod Small
-pub mod Shortest

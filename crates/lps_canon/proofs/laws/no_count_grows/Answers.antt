@@ -1,7 +1,0 @@
-use Rattle.std.specs.Prelude.{[]}
-use Rattle.lps_canon.proofs.Growth.{text_lessens}
-use Rattle.lps_canon.proofs.Small.{small_stays}
-use Rattle.lps_canon.proofs.laws.no_count_grows.Goals as goal
-
-pub returns : goal.returns
-returns c = record { of_counts = λ x. text_lessens x [] [] (λ limit all. all); of_limit = small_stays }

@@ -1,2 +1,0 @@
-pub mod Thinner
-pub mod Canonical

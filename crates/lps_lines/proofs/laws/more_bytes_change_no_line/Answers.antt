@@ -1,5 +1,0 @@
-use Rattle.lps_lines.proofs.Pieces.{keeps_lines}
-use Rattle.lps_lines.proofs.laws.more_bytes_change_no_line.Goals as goal
-
-pub returns : goal.returns
-returns c = keeps_lines

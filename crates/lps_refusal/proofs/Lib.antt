@@ -1,4 +1,0 @@
-mod First
-mod Numbering
-pub mod Texts
-pub mod Unique
