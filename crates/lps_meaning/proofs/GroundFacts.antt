@@ -1,31 +1,74 @@
 -- The fluents that hold in a run of an accepted and well-formed text are ground: initial facts have no variables, and what is
--- initiated stands in an instance of a law.
-use Rattle.std.proofs.Common.{ℕ, zero, suc, ◌≡◌, Bool, true, false, List, [], ◌∷◌, length, sym, ap, ◌∙◌, subst, refl, inl, inr}
-use Rattle.std.specs.Prelude.{◌&&◌, IsTrue, Contains, nat_lt, nat_le, if◌then◌else◌}
+use Rattle.std.proofs.Common.{ℕ, ◌≡◌, Bool, true, false, List, [], ◌∷◌, length, map, refl, sym, ap, subst, ◌∙◌, zero, suc, inl, inr}
+use Rattle.std.specs.Prelude.{IsTrue, nat_lt, nat_le, ◌&&◌, Contains, ◌||◌}
 use Rattle.std.specs.List.{AllByRecursion, list_all}
+use Rattle.std.proofs.lemmas.List.{length-map}
 use Rattle.lps_terms.specs.declared.atom.Atom.{Atom}
 use Rattle.lps_terms.specs.declared.body.Body.{Body}
 use Rattle.lps_terms.specs.declared.body.Body.TheVariants as b
+use Rattle.lps_terms.specs.declared.item.Item.TheVariants as i
 use Rattle.lps_terms.specs.declared.statement.Statement.{Statement}
 use Rattle.lps_terms.specs.declared.term.Term.{Term}
 use Rattle.lps_terms.specs.declared.term.Term.TheVariants as t
 use Rattle.lps_terms.specs.declared.text.Text.{Text}
 use Rattle.lps_terms.specs.Forms.{term_ind}
 use Rattle.lps_terms.specs.Names.{is_proper_name}
+use Rattle.lps_terms.specs.Put.{put, put_atom, put-Int, put-Sym, put-App, put-Var}
 use Rattle.lps_model.specs.declared.trace.Trace.{Trace}
-use Rattle.lps_model.specs.Acceptance.{IsAccepted}
-use Rattle.lps_model.specs.Formed.{is_formed, is_formed_atom, is_formed_body, is_formed_cond, is_formed_statement, is_formed_term, is_formed-App, is_formed-Int, is_formed-Sym}
-use Rattle.lps_model.specs.KindRefusals.{is_not_ground}
+use Rattle.lps_model.specs.Formed.{is_formed, is_formed_atom, is_formed_body, is_formed_statement, is_formed_term, is_formed-App, is_formed-Int, is_formed-Sym, is_formed_cond}
 use Rattle.lps_model.specs.Program.{Law, initial_atoms, initial_in, law_in, laws}
+use Rattle.lps_derivation.specs.Ground.{is_ground, is_ground-App, is_ground-Int, is_ground-Sym}
+use Rattle.lps_model.proofs.Elements.{first_or_later, nothing_contained}
+use Rattle.lps_meaning.specs.Reports.{IsGroundAtom}
+use Rattle.lps_model.specs.Rules.{MacroClause, Rule}
+use Rattle.lps_meaning.proofs.Lists.{both, of_element, of_flat}
+-- initiated stands in an instance of a law.
+use Rattle.lps_terms.specs.declared.body.Body.TheVariants as b
+use Rattle.lps_terms.specs.declared.term.Term.TheVariants as t
+use Rattle.lps_model.specs.Acceptance.{IsAccepted}
+use Rattle.lps_model.specs.KindRefusals.{is_not_ground}
 use Rattle.lps_model.specs.Run.{AreInitial}
 use Rattle.lps_model.specs.Variables.{has_variable, have_variables, hold_variables, variable_in_app, variable_in_var}
-use Rattle.lps_model.proofs.Elements.{first_or_later, nothing_contained}
 use Rattle.lps_model.proofs.Stated.{flat_within, statement_ground}
-use Rattle.lps_derivation.specs.Ground.{is_ground, is_ground-App, is_ground-Int, is_ground-Sym}
 use Rattle.lps_meaning.specs.Holds.{CausedIn, Holds, HoldsUpTo, Persists}
-use Rattle.lps_meaning.specs.Reports.{IsGroundAtom}
-use Rattle.lps_meaning.proofs.GroundRuns.{body_formed, ground_atom, of_element, of_flat, statements_formed, word_range}
-use Rattle.lps_meaning.proofs.TextPieces.{both}
+use Rattle.lps_meaning.proofs.Formed.{body_formed, statements_formed}
+
+-- ---- terms and atoms
+
+module _ (variables : ℕ) (s : ℕ → Term) (ground : (v : ℕ) → IsTrue (is_ground (s v))) where
+  abbrev Grounds : Term → Type 0
+  Grounds x = is_formed_term variables x ≡ true → is_ground (put s x) ≡ true
+
+  all_grounds : (ts : List Term) → AllByRecursion Grounds ts → list_all (is_formed_term variables) ts ≡ true → list_all is_ground (map (put s) ts) ≡ true
+  all_grounds [] each h = refl
+  all_grounds (x ∷ ts) each h =
+      let parts = both (is_formed_term variables x) (list_all (is_formed_term variables) ts) h in
+      let one = each.0 parts.0 in
+      let more = all_grounds ts each.1 parts.1 in λ i. one i && more i
+
+  app_grounds : (n : List ℕ) (ts : List Term) → AllByRecursion Grounds ts → Grounds (t.App n ts)
+  app_grounds n ts each h =
+      let parts = both (is_proper_name n && nat_lt 0 (length ts) && nat_le (length ts) 64) (list_all (is_formed_term variables) ts) (sym (is_formed-App variables n ts) ∙ h) in
+      let args = all_grounds ts each parts.1 in
+      ap is_ground (put-App s n ts) ∙ is_ground-App n (map (put s) ts)
+      ∙ ap (λ k. is_proper_name n && nat_lt 0 k && nat_le k 64 && list_all is_ground (map (put s) ts)) (length-map ts (put s))
+      ∙ (λ i. parts.0 i && args i)
+
+  grounds : (x : Term) → Grounds x
+  grounds = term_ind Grounds
+      (λ z h. ap is_ground (put-Int s z) ∙ is_ground-Int z ∙ sym (is_formed-Int variables z) ∙ h)
+      (λ n h. ap is_ground (put-Sym s n) ∙ is_ground-Sym n ∙ sym (is_formed-Sym variables n) ∙ h)
+      app_grounds
+      (λ v h. ap is_ground (put-Var s v) ∙ ground v)
+
+  every_grounds : (ts : List Term) → AllByRecursion Grounds ts
+  every_grounds [] = tt
+  every_grounds (x ∷ ts) = (grounds x, every_grounds ts)
+
+  pub ground_atom : (a : Atom) → is_formed_atom variables a ≡ true → IsGroundAtom (put_atom s a)
+  ground_atom a h =
+      let parts = both (is_proper_name a.name && nat_le (length a.args) 64) (list_all (is_formed_term variables) a.args) h in
+      ((both (is_proper_name a.name) (nat_le (length a.args) 64) parts.0).0, all_grounds a.args (every_grounds a.args) parts.1)
 
 -- ---- initial facts
 
@@ -34,7 +77,7 @@ module _ (n : ℕ) where
   abbrev IsGroundWithout : Term → Type 0
   IsGroundWithout x = is_formed_term n x ≡ true → has_variable x ≡ false → is_ground x ≡ true
 
-  none_here : (one rest : Bool) → (if one then true else rest) ≡ false → (one ≡ false) × (rest ≡ false)
+  none_here : (one rest : Bool) → (one || rest) ≡ false → (one ≡ false) × (rest ≡ false)
   none_here true rest h = absurd cc
   none_here false rest h = (refl, h)
 
@@ -54,7 +97,7 @@ module _ (n : ℕ) where
 
   term_ground : (x : Term) → IsGroundWithout x
   term_ground = term_ind IsGroundWithout
-      (λ z h none. is_ground-Int z ∙ sym (word_range z) ∙ sym (is_formed-Int n z) ∙ h)
+      (λ z h none. is_ground-Int z ∙ sym (is_formed-Int n z) ∙ h)
       (λ name h none. is_ground-Sym name ∙ sym (is_formed-Sym n name) ∙ h)
       app_ground
       (λ v h none. let has = variable_in_var v in absurd cc)

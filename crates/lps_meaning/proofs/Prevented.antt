@@ -28,7 +28,7 @@ use Rattle.lps_meaning.specs.Denials.{IsMetBy, ViolatesNone}
 use Rattle.lps_meaning.specs.Items.{put_item}
 use Rattle.lps_meaning.specs.Laws.{NoneIsViolated}
 use Rattle.lps_model.specs.Rules.{denial_in, denials, numbered}
-use Rattle.lps_meaning.proofs.BlockLines.{number_contained}
+use Rattle.lps_meaning.proofs.Lists.{number_contained}
 
 -- ---- each denial of an accepted text has an event
 

@@ -7,11 +7,4 @@ pub mod Goals
 pub mod Cycles
 pub mod Plain
 pub mod Reports
-pub mod Shapes
-pub mod Steps
-pub mod Nodes
-pub mod Conditions
-pub mod Integers
-pub mod Alone
 pub mod Laws
-pub mod Examples

@@ -1,7 +1,7 @@
 -- What is reported of a trace, and its bytes.
-use Rattle.std.specs.Prelude.{◌≡◌, ◌⊎◌, ◌≤◌, ◌<◌, ◌^◌, IsTrue, ◌↔◌, ◌-◌, ◌++◌, ℕ, zero, suc, Bool, true, false, List, [], ◌∷◌, length, codes, Option, Some, None, Contains, if◌then◌else◌, nat_eq, ◌&&◌, map}
+use Rattle.std.specs.Prelude.{◌≡◌, ◌⊎◌, ◌≤◌, IsTrue, ◌↔◌, ◌-◌, ◌++◌, ℕ, zero, suc, Bool, true, false, List, [], ◌∷◌, length, codes, Option, Some, None, Contains, if◌then◌else◌, nat_eq, ◌&&◌, map}
 use Rattle.std.specs.Fmt.{decimal}
-use Rattle.std.specs.List.{AllByRecursion, AllZip, count_by, flat_map, list_all}
+use Rattle.std.specs.List.{AllZip, count_by, flat_map, list_all}
 use Rattle.std.specs.List.Sorted.{IsStrictlySortedBy}
 use Rattle.std.specs.Ordering.{nat_cmp, on}
 use Rattle.lps_terms.specs.declared.atom.Atom.{Atom}
@@ -14,8 +14,6 @@ use Rattle.lps_model.specs.declared.cycle.Pick.{Pick}
 use Rattle.lps_model.specs.declared.trace.Trace.{Trace}
 use Rattle.lps_model.specs.Report.{verdict_lines, listed_from}
 use Rattle.lps_model.specs.Trace.{cycle_at}
-use Rattle.lps_model.specs.declared.verdict.Verdict.{Verdict}
-use Rattle.lps_model.specs.declared.verdict.Verdict.TheVariants.{Admitted, Rejected}
 use Rattle.lps_derivation.specs.Ground.{is_ground}
 use Rattle.lps_meaning.specs.declared.goal.Closed.{Closed}
 use Rattle.lps_meaning.specs.declared.goal.Closed.TheVariants as c
@@ -124,46 +122,6 @@ block_text number block =
 -- a name that a text may give, and ground arguments
 abbrev pub IsGroundAtom : Atom → Type 0
 IsGroundAtom a = IsTrue (is_proper_name a.name) × IsTrue (list_all is_ground a.args)
-
--- the number of a denial that a verdict names has 64 bits
-abbrev pub IsSmallVerdict : Verdict → Type 0
-IsSmallVerdict Admitted = Unit {0}
-IsSmallVerdict (Rejected denial) = denial < 2 ^ 64
-
--- the atoms of a pick are ground, and the number of its goal has 64 bits
-abbrev pub IsGroundPick : Pick → Type 0
-IsGroundPick pick = AllByRecursion IsGroundAtom pick.group.atoms × (pick.goal < 2 ^ 64)
-
--- All atoms of a cycle are ground, and all numbers have 64 bits: other numbers can have the same digits.
-pub record IsGroundCycle (cycle : Cycle) : Type 0 where
-  pub events : AllByRecursion IsGroundAtom cycle.events
-  pub verdicts : AllByRecursion IsSmallVerdict cycle.verdicts
-  pub picks : AllByRecursion IsGroundPick cycle.picks
-
--- all numbers of a cycle have 64 bits
-pub record IsSmallCycle (cycle : Cycle) : Type 0 where
-  pub verdicts : AllByRecursion IsSmallVerdict cycle.verdicts
-  pub picks : AllByRecursion (λ (pick : Pick). pick.goal < 2 ^ 64) cycle.picks
-
--- the values of a new goal's key are ground, and its numbers have 64 bits
-pub record IsGroundGoal (new : NewGoal) : Type 0 where
-  pub goal : new.goal.0 < 2 ^ 64
-  pub rule : new.key.rule < 2 ^ 64
-  pub values : AllByRecursion (λ value. IsTrue (is_ground value)) new.key.values
-  pub times : AllByRecursion (λ time. time < 2 ^ 64) new.key.times
-
--- all atoms and terms of a block are ground, all numbers have 64 bits, and there are as many verdicts as events
-pub record IsGroundBlock (block : Block) : Type 0 where
-  pub cycle : IsGroundCycle block.cycle
-  pub paired : length block.cycle.events ≡ length block.cycle.verdicts
-  pub facts : AllByRecursion IsGroundAtom block.facts
-  pub created : AllByRecursion IsGroundGoal block.created
-  pub closed : AllByRecursion (λ (goal : GoalId × Closed). goal.0.0 < 2 ^ 64) block.closed
-
--- the numbers of the goals and rules of a block have 64 bits
-pub record IsSmallBlock (block : Block) : Type 0 where
-  pub created : AllByRecursion (λ (new : NewGoal). (new.goal.0 < 2 ^ 64) × (new.key.rule < 2 ^ 64)) block.created
-  pub closed : AllByRecursion (λ (goal : GoalId × Closed). goal.0.0 < 2 ^ 64) block.closed
 
 -- `done` where all counts are 0, else `open P failed F cut C`
 abbrev pub last_line : Counts → List ℕ

@@ -3,9 +3,8 @@
 //!
 //! It stands on the data of texts and traces and on truth by derivation, and never knows of states that change, of
 //! trails or of what is carried from cycle to cycle: each definition speaks of a whole trace. It carries the law of
-//! states, and the law that a status other than pending stays in every continuation for texts that are accepted, each
-//! as the contract of a function over the definitions alone. Its types are those that goals are pursued with, and it
-//! copies them.
+//! states (`state_law`), the law that what happens in a run violates no denial (`denial_law`), and the laws that plain runs
+//! and reports are unique (`plain_law`, `report_law`). Its types are those that goals are pursued with, and it copies them.
 #![tactic(auto)]
 
 mod copy;
@@ -16,9 +15,6 @@ mod when;
 
 pub use copy::{copy_cycle, copy_key, copy_node};
 pub use goal::{Closed, Counts, GoalId, GoalKey, NewGoal};
-pub use laws::{
-    denial_law, example_law, frame_law, goal_law, node_law, plain_law, report_law, rule_law,
-    state_law, status_law, truth_law,
-};
+pub use laws::{denial_law, frame_law, goal_law, plain_law, report_law, state_law, truth_law};
 pub use node::{Carry, Left, LeftCon, LeftItem, Node};
 pub use when::When;

@@ -13,7 +13,7 @@ use Rattle.lps_model.proofs.Elements.{first_or_later, nothing_contained}
 use Rattle.lps_meaning.specs.Denials.{IsMetBy, ViolatesNone}
 use Rattle.lps_meaning.specs.Items.{put_item}
 use Rattle.lps_model.specs.Rules.{denials}
-use Rattle.lps_meaning.proofs.BlockLines.{number_contained}
+use Rattle.lps_meaning.proofs.Lists.{number_contained}
 use Rattle.lps_precond.specs.Cut.{Cut, cut, cuts, name_of}
 use Rattle.lps_precond.specs.Rows.{all_happen}
 use Rattle.lps_precond.proofs.Asked.{named_among}

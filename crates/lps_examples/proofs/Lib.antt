@@ -1,0 +1,15 @@
+mod BegunAnew
+mod Deadline
+mod Depth
+mod ExampleWalks
+mod Fire
+mod Nesting
+mod NodeExample
+mod OneAfterOther
+mod OneGoal
+mod OneOrder
+mod OtherAlternative
+mod ParcelOffice
+mod RejectExample
+mod StateExamples
+mod Waiting

@@ -1,0 +1,3 @@
+mod Continuations
+mod RuleLaws
+mod Statuses
