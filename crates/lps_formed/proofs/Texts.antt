@@ -6,7 +6,6 @@ use Rattle.std.proofs.Common.{◌∙◌, sym, ap, subst, arith, length-append}
 use Rattle.std.proofs.lemmas.Bool.{le-leb}
 use Rattle.lps_terms.specs.declared.statement.Statement.{Statement}
 use Rattle.lps_terms.specs.declared.text.Text.{Text}
-use Rattle.lps_lex.specs.declared.token.Token.{Token}
 use Rattle.lps_lex.proofs.Places.{lexed_apart, lexed_spans}
 use Rattle.lps_grammar.specs.declared.tok.Tok.{Tok}
 use Rattle.lps_grammar.specs.declared.tok.Tok.TheVariants as k
@@ -16,7 +15,9 @@ use Rattle.lps_numbering.specs.declared.names.Names.{Names}
 use Rattle.lps_numbering.specs.Numbers.{no_names, statements_of, toks_of}
 use Rattle.lps_build.specs.Meaning.{bodies_of, body_of, decls_of, modeds_of}
 use Rattle.lps_reader.specs.Refusals.{tokens_in}
-use Rattle.lps_reader.specs.Texts.{IsTextOf, statements_made}
+use Rattle.lps_reader.specs.Made.{statements_made}
+use Rattle.lps_reader.specs.Refusing.{line_at}
+use Rattle.lps_reader.specs.Texts.{IsTextOf}
 use Rattle.lps_model.specs.Formed.{is_formed, is_formed_body, is_formed_statement}
 use Rattle.lps_model.specs.Program.{declarations, declared_in}
 use Rattle.lps_formed.proofs.Along.{AreFew, AreFormedAlong, few_along, formed_along, is_dot, IsFormedTok, tokens_size, toks_size}
@@ -94,16 +95,16 @@ record AreAllFormed (most : ℕ) (statements : List Statement) : Type 0 where
   formed : list_all is_formed_statement statements ≡ true
   few : length (flat_map (λ (s : Statement). declared_in s.body) statements) ≤ most
 
-all_formed : (tokens : List Token) (total : ℕ) (tree : gs.Text) (statements : List Names) → AreFew statements → AreFormedAlong statements (spell_text tree []) →
-    AreAllFormed (length (spell_text tree [])) (statements_made tokens (bodies_of total tree) statements)
-all_formed tokens total gs.done statements few along = record { formed = refl; few = omega arith }
-all_formed tokens total (gs.next x text) [] few along = record { formed = refl; few = omega arith }
-all_formed tokens total (gs.next x text) (names ∷ more) few along =
+all_formed : (line : ℕ → ℕ) (total : ℕ) (tree : gs.Text) (statements : List Names) → AreFew statements → AreFormedAlong statements (spell_text tree []) →
+    AreAllFormed (length (spell_text tree [])) (statements_made line (bodies_of total tree) statements)
+all_formed line total gs.done statements few along = record { formed = refl; few = omega arith }
+all_formed line total (gs.next x text) [] few along = record { formed = refl; few = omega arith }
+all_formed line total (gs.next x text) (names ∷ more) few along =
     let rest = spell_text text [] in
     let front = front_formed names more x rest along in
-    let later = all_formed tokens total text more few.1 front.left in
+    let later = all_formed line total text more few.1 front.left in
     let here = declared_size x (k.Dot ∷ rest) front.fewer in
-    let both = length-append (declared_in (body_of x)) (flat_map (λ (s : Statement). declared_in s.body) (statements_made tokens (bodies_of total text) more)) in
+    let both = length-append (declared_in (body_of x)) (flat_map (λ (s : Statement). declared_in s.body) (statements_made line (bodies_of total text) more)) in
     record {
       formed = both_true (both_true (both_true (le-leb (length names.names) 255 (omega (arith, few.0))) (le-leb (length names.times) 255 (omega (arith, few.0)))) front.formed) later.formed;
       few = omega (arith, both, later.few, here);
@@ -117,7 +118,7 @@ text_formed bytes text is =
     let spans = lexed_spans bytes tokens refl in
     let along = subst (AreFormedAlong (statements_of bytes tokens)) is.spelled (formed_along bytes no_names tokens spans) in
     let few = few_along bytes no_names 0 tokens (omega arith) is.accepted.2.2 in
-    let found = all_formed tokens (length (toks_of bytes tokens)) is.tree (statements_of bytes tokens) few along in
+    let found = all_formed (line_at tokens) (length (toks_of bytes tokens)) is.tree (statements_of bytes tokens) few along in
     let size = sym (ap (λ (ts : List Tok). length ts) is.spelled) ∙ toks_size bytes no_names tokens in
     let fewer = tokens_size bytes 0 tokens (omega arith) spans (lexed_apart bytes tokens refl) in
     subst (AreAllFormed (length bytes)) (sym is.statements) (record { formed = found.formed; few = omega (arith, found.few, size, fewer) })

@@ -16,8 +16,8 @@ use Rattle.lps_build.specs.ReadStatements.{text_in}
 use Rattle.lps_build.proofs.StatementTrees.{read_text, text_found}
 use Rattle.lps_reader.specs.Refusing.{line_at}
 use Rattle.lps_reader.specs.Refusals.{IsRefusedAs, tokens_in}
-use Rattle.lps_reader.specs.Made.{line_of, made_in_lines}
-use Rattle.lps_reader.specs.Texts.{IsTextOf, statements_made}
+use Rattle.lps_reader.specs.Made.{line_of, statements_made}
+use Rattle.lps_reader.specs.Texts.{IsTextOf}
 use Rattle.lps_batches.proofs.Named.{named_text}
 
 -- the names among the tokens of bytes are names of the syntax
@@ -36,7 +36,7 @@ pub unique : (bytes : List ℕ) (text other : Text) → IsTextOf bytes text → 
 unique bytes text other a b =
     let same = one_meaning (toks_of bytes (tokens_in bytes)) a.tree b.tree a.spelled b.spelled (named bytes) in
     let statements : text.statements ≡ other.statements =
-    a.statements ∙ ap (λ bodies. statements_made (tokens_in bytes) bodies (statements_of bytes (tokens_in bytes))) same ∙ sym b.statements in
+    a.statements ∙ ap (λ bodies. statements_made (line_at (tokens_in bytes)) bodies (statements_of bytes (tokens_in bytes))) same ∙ sym b.statements in
     λ i. record { statements = statements i }
 
 -- the line at a place
@@ -46,11 +46,9 @@ line_same (token ∷ tokens) zero = refl
 line_same (token ∷ tokens) (suc at) = line_same tokens at
 
 -- by lines the statements are made as by tokens
-pub made_same : (tokens : List Token) (bodies : List (ℕ × Body)) (names : List Names) → made_in_lines (map (λ (token : Token). token.line) tokens) bodies names ≡ statements_made tokens bodies names
-made_same tokens [] names = refl
-made_same tokens (body ∷ bodies) [] = refl
-made_same tokens (body ∷ bodies) (first ∷ names) =
-    λ i. record { line = line_same tokens body.0 i; names = first.names; times = first.times; body = body.1 } ∷ made_same tokens bodies names i
+pub made_same : (tokens : List Token) (bodies : List (ℕ × Body)) (names : List Names) →
+    statements_made (line_of (map (λ (token : Token). token.line) tokens)) bodies names ≡ statements_made (line_at tokens) bodies names
+made_same tokens bodies names = λ i. statements_made (λ at. line_same tokens at i) bodies names
 
 -- the tree of tokens that are a text
 pub tree_of : (bytes : List ℕ) → IsRefusedAs bytes None → IsText (toks_of bytes (tokens_in bytes))

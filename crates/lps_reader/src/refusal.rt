@@ -63,7 +63,7 @@ fn beside(verdict: TextVerdict, place: usize, tokens: &[Token]) -> ReadRefused
 }
 
 /// The line of the token at a place, counted from 0, where there is one; else 0.
-pub fn line_at(tokens: &[Token], at: usize) -> u32
+fn line_at(tokens: &[Token], at: usize) -> u32
     ensures { result ≡ line_at tokens.now at }
 {
     match tokens.get(at) {

@@ -1,6 +1,6 @@
 ghost use Rattle.std.specs.Prelude.{◌≡◌, map, IfOk};
 ghost use Rattle.lps_lex.specs.declared.token.Token.{Token as Lexed};
-ghost use Rattle.lps_reader.specs.Made.{line_of as line_of_place, made_in_lines};
+ghost use Rattle.lps_reader.specs.Made.{line_of as line_of_place, statements_made};
 
 use lps_lex::Token;
 use lps_numbering::Names;
@@ -36,7 +36,7 @@ pub fn statements(
     names: Vec<Names>,
     bodies: Vec<(usize, Body)>,
 ) -> Result<Items<Statement>, AllocError>
-    ensures { IfOk result (λ found. found ≡ made_in_lines lines.now bodies.items names.items) }
+    ensures { IfOk result (λ found. found ≡ statements_made (line_of_place lines.now) bodies.items names.items) }
 {
     let mut statements = Items::new(alloc);
     let mut names = names.into_iter();

@@ -23,7 +23,7 @@ use Rattle.lps_roundtrip.proofs.Small.{small_stays}
 use Rattle.lps_roundtrip.proofs.Thins.{none_left_out, text_thins}
 use Rattle.lps_syntax.specs.Judging.{IsSmallText}
 use Rattle.lps_syntax.proofs.Unique.{begins_before, small_before}
-use Rattle.lps_reader.specs.Refusing.{IsFirstRefusal}
+use Rattle.lps_reader.specs.Refusing.{IsFirstRefusal, line_at}
 use Rattle.lps_reader.specs.Refusals.{IsRefusal, IsRefusedAs, IsShort, tokens_in}
 use Rattle.lps_printer.specs.Statements.{canonical, statement_text}
 use Rattle.lps_roundtrip.specs.Words.{Word, words_in}
@@ -35,7 +35,8 @@ use Rattle.lps_roundtrip.specs.Along.{AreFineAlong, words_along}
 use Rattle.lps_roundtrip.specs.Numbered.{crowded_by, statements_by, toks_by}
 use Rattle.lps_reader.specs.declared.read_error.ReadError.{ReadError}
 use Rattle.lps_reader.specs.declared.read_error.ReadError.TheVariants.{NoMemory, Refused}
-use Rattle.lps_reader.specs.Texts.{IsReadOf, IsTextOf, statements_made}
+use Rattle.lps_reader.specs.Made.{statements_made}
+use Rattle.lps_reader.specs.Texts.{IsReadOf, IsTextOf}
 use Rattle.lps_reader.proofs.Texts.{unique}
 use Rattle.lps_roundtrip.specs.RoundTrip.{in_lines, IsReadAs, statements_in_lines}
 use Rattle.lps_roundtrip.proofs.Again.{AreNumberedAgain, AreWords, numbered_again}
@@ -85,9 +86,9 @@ read_back bytes text is short = record {
   spelled = toks_are_us;
   statements =
       ap (statements_in_lines 1) is.statements
-      ∙ lines_are again (tokens_in again) tokens is.tree statements 1 0 (length (toks_of bytes tokens)) (length us) lexed_again.1 (omega arith)
-      ∙ ap (λ ts. statements_made (tokens_in again) (bodies_of (length ts) tree) statements) (sym toks_are_us)
-      ∙ ap (statements_made (tokens_in again) (bodies_of (length (toks_of again (tokens_in again))) tree)) (sym statements_are_same);
+      ∙ lines_are again (tokens_in again) (line_at tokens) is.tree statements 1 0 (length (toks_of bytes tokens)) (length us) lexed_again.1 (omega arith)
+      ∙ ap (λ ts. statements_made (line_at (tokens_in again)) (bodies_of (length ts) tree) statements) (sym toks_are_us)
+      ∙ ap (statements_made (line_at (tokens_in again)) (bodies_of (length (toks_of again (tokens_in again))) tree)) (sym statements_are_same);
 }
   where
     tokens : List Token
@@ -118,7 +119,7 @@ read_back bytes text is short = record {
     fine = all_fine is.tree statements (toks_fine bytes us thin)
 
     are_of : AreOf statements is.tree text.statements
-    are_of = subst (AreOf statements is.tree) (sym is.statements) (made_of tokens (length (toks_of bytes tokens)) is.tree statements fine)
+    are_of = subst (AreOf statements is.tree) (sym is.statements) (made_of (line_at tokens) (length (toks_of bytes tokens)) is.tree statements fine)
 
     shown : Shown 1 again words
     shown = subst (Shown 1 again) (sym (all_words is.tree statements 1)) (text_shown statements is.tree text are_of fine)

@@ -19,7 +19,7 @@ use Rattle.lps_roundtrip.specs.Words.{Word, word_at, word_of, words_of}
 use Rattle.lps_roundtrip.specs.Shown.{AreFine}
 use Rattle.lps_roundtrip.specs.Lines.{AreAllFine, AreOf, words_of_text}
 use Rattle.lps_roundtrip.specs.Along.{AreFineAlong, words_along}
-use Rattle.lps_reader.specs.Texts.{statements_made}
+use Rattle.lps_reader.specs.Made.{statements_made}
 use Rattle.lps_roundtrip.specs.RoundTrip.{statements_in_lines}
 use Rattle.lps_roundtrip.proofs.Cuts.{Cut, NoDots, statement_cut}
 
@@ -88,10 +88,10 @@ all_words (gs.next x text) (names ∷ more) line =
     split_words x rest names more line ∙ ap (λ ws. words_of names line (own x rest) ++ ws) (all_words text more (suc line))
 
 -- the statements that are made are those of the tree
-pub made_of : (tokens : List Token) (total : ℕ) (tree : gs.Text) (statements : List Names) → AreAllFine statements tree → AreOf statements tree (statements_made tokens (bodies_of total tree) statements)
-made_of tokens total gs.done statements fine = tt
-made_of tokens total (gs.next x text) [] fine = absurd fine
-made_of tokens total (gs.next x text) (names ∷ more) fine = (record { names = refl; times = refl; body = refl }, made_of tokens total text more fine.1)
+pub made_of : (line : ℕ → ℕ) (total : ℕ) (tree : gs.Text) (statements : List Names) → AreAllFine statements tree → AreOf statements tree (statements_made line (bodies_of total tree) statements)
+made_of line total gs.done statements fine = tt
+made_of line total (gs.next x text) [] fine = absurd fine
+made_of line total (gs.next x text) (names ∷ more) fine = (record { names = refl; times = refl; body = refl }, made_of line total text more fine.1)
 
 -- ---- lines
 
@@ -106,9 +106,9 @@ token_line bytes (token ∷ tokens) zero word words e = ap first_line e
 token_line bytes (token ∷ tokens) (suc place) word words e = token_line bytes tokens place word words e
 
 -- The statements, each in a line of its own, are those that are made of tokens before which the words of the canonical tree stand in these lines.
-pub lines_are : (bytes : List ℕ) (tokens old : List Token) (tree : gs.Text) (statements : List Names) (line place total new_total : ℕ) →
+pub lines_are : (bytes : List ℕ) (tokens : List Token) (old : ℕ → ℕ) (tree : gs.Text) (statements : List Names) (line place total new_total : ℕ) →
     map (word_at bytes) (drop place tokens) ≡ words_along statements line (spell_text (canonical_text tree) []) → new_total ≡ place + length (spell_text (canonical_text tree) []) →
-    statements_in_lines line (statements_made old (bodies_of total tree) statements) ≡ statements_made tokens (bodies_of new_total (canonical_text tree)) statements
+    statements_in_lines line (statements_made old (bodies_of total tree) statements) ≡ statements_made (line_at tokens) (bodies_of new_total (canonical_text tree)) statements
 lines_are bytes tokens old gs.done statements line place total new_total words size = refl
 lines_are bytes tokens old (gs.next x text) [] line place total new_total words size = refl
 lines_are bytes tokens old (gs.next x text) (names ∷ more) line place total new_total words size =

@@ -4,8 +4,8 @@ use Rattle.lps_grammar.specs.declared.tok.Tok.{Tok}
 use Rattle.lps_build.specs.Fits.{AreNamed}
 use Rattle.lps_build.specs.Meaning.{bodies_of}
 use Rattle.lps_reader.specs.Refusals.{tokens_in}
-use Rattle.lps_reader.specs.Made.{made_in_lines}
-use Rattle.lps_reader.specs.Texts.{statements_made}
+use Rattle.lps_reader.specs.Made.{line_of, statements_made}
+use Rattle.lps_reader.specs.Refusing.{line_at}
 use Rattle.lps_reader.proofs.Texts.{made_same, named, tree_of}
 use Rattle.lps_reader.proofs.text.built.Goals as goal
 
@@ -28,8 +28,8 @@ returns c =
       spelled = tree.1;
       statements =
           c.in_ok-statements.ensures
-          ∙ ap (λ (lines : List ℕ). made_in_lines lines c.in-Some.bodies.items c.args.found.numbered.statements.items)
+          ∙ ap (λ (lines : List ℕ). statements_made (line_of lines) c.in-Some.bodies.items c.args.found.numbered.statements.items)
           (c.as_slice-3.ensures.value ∙ c.in_ok-lines.ensures ∙ ap (map (λ (token : Token). token.line)) (c.as_slice.ensures.value ∙ c.requires.tokens))
           ∙ made_same (tokens_in bytes) c.in-Some.bodies.items c.args.found.numbered.statements.items
-          ∙ (λ i. statements_made (tokens_in bytes) ((bodies ∙ ap (λ (ts : List Tok). bodies_of (length ts) tree.0) toks) i) (c.requires.statements i));
+          ∙ (λ i. statements_made (line_at (tokens_in bytes)) ((bodies ∙ ap (λ (ts : List Tok). bodies_of (length ts) tree.0) toks) i) (c.requires.statements i));
     }
