@@ -42,7 +42,7 @@ impl MemTexts {
 impl Texts for MemTexts {
     ghost text = { λ it name. Some (text_of it.texts name) };
 
-    ghost faults = { λ it. it.calls.faults };
+    ghost faults = { λ it name. it.calls.faults };
 
     /// Fails exactly at the calls that are listed; another copies as many bytes as there is room for.
     fn read(&mut self, name: &str, at: u64, into: &mut [u8]) -> Result<usize, Fault>

@@ -57,7 +57,7 @@ impl SureTexts {
 impl Texts for SureTexts {
     ghost text = { λ texts name. Some (text_of texts name) };
 
-    ghost faults = { λ texts. 0 };
+    ghost faults = { λ texts name. 0 };
 
     /// Copies as many bytes as there is room for. It never fails.
     fn read(&mut self, name: &str, at: u64, into: &mut [u8]) -> Result<usize, Fault>

@@ -9,8 +9,9 @@ pub trait Texts {
     /// The bytes of the text of a name, where the object tells them.
     ghost text: { Self → List ℕ → Option (List ℕ) };
 
-    /// How often a call failed.
-    ghost faults: { Self → ℕ };
+    /// How often a call for a name failed. A call tells only the count of its own name, so a caller that has to know
+    /// the count of one name reads no other.
+    ghost faults: { Self → List ℕ → ℕ };
 
     /// Copies bytes of the named text from place `at` on into the front of `into`, and answers how many.
     ///
@@ -21,5 +22,5 @@ pub trait Texts {
         ensures bytes { IfOk result (λ count. (all : List ℕ) → text self.old name.now ≡ Some all →
             CopiesAt all at count (length into.old) into.new) }
         ensures same { (other : List ℕ) → text self.new other ≡ text self.old other }
-        ensures cause { HasCause (faults self.old) (faults self.new) result };
+        ensures cause { HasCause (faults self.old name.now) (faults self.new name.now) result };
 }

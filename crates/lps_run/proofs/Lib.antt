@@ -1,4 +1,3 @@
-pub mod Blocks
 pub mod WithoutRules
 pub mod Feeds
 pub mod Judging

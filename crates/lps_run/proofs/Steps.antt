@@ -339,6 +339,25 @@ pub last_counted : (reads reads' before mid after : ℕ) (result : Result (Unit 
 last_counted reads reads' before mid after (Ok x) same kept cause = (same, cause ∙ kept)
 last_counted reads reads' before mid after (Err stop) same kept cause = rw cause.0 (same, subst (λ n. Rose n after) kept cause.1)
 
+-- before the last line, what is printed is a front of the report
+pub last_front : (running : Running) (text : Text) (stream start : List ℕ) (printed : Option (List ℕ)) → Finished running stream start printed → running.engine.text ≡ text → PrintsFront text stream start printed
+last_front running text stream start printed done same =
+    let p = done.prints in
+    let run : PrintsRunFront running.engine.text stream start printed = record {
+      batches = done.batches;
+      first = record { front = judged.ended stream; rest = []; split = sym (append-nil (judged.ended stream)); lines = done.sound.0; are = done.sound.1 };
+      trace = p.trace;
+      run = p.run;
+      blocks = p.blocks;
+      reported = p.reported;
+      ending = [];
+      may_end = inl refl;
+      front = p.blocks;
+      is_front = ([], refl);
+      told = p.told;
+    } in
+    subst (λ (t : Text). PrintsFront t stream start printed) same (inr run)
+
 -- the last line is printed, or a front of it
 pub last_printed : (running : Running) (text : Text) (stream start bytes : List ℕ) (before after : Option (List ℕ)) (source : Option Stream) (last : Stream) (X Y : Type 0) (result : Result (Unit {0}) Stop) →
     Finished running stream start before → running.engine.text ≡ text → bytes ≡ codes "done\n" → source ≡ Some last → last.left ≡ [] →

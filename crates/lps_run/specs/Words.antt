@@ -1,5 +1,5 @@
 -- The words of a call.
-use Rattle.std.specs.Prelude.{ℕ, Bool, false, ◌==◌, not, List, [], ◌∷◌, codes, map, string_bytes, Option, Some, None, if◌then◌else◌}
+use Rattle.std.specs.Prelude.{◌≡◌, ℕ, Bool, false, ◌==◌, not, List, [], ◌∷◌, codes, map, string_bytes, Option, Some, None, if◌then◌else◌}
 use Rattle.std.specs.Str.{bytes_eq}
 use Rattle.std.specs.declared.string.String.{String}
 use Rattle.std.specs.declared.alloc.Global.{Global}
@@ -30,3 +30,7 @@ command_of [] = None
 command_of (word ∷ []) = None
 command_of (word ∷ name ∷ []) = with_argument (command_named word) name
 command_of (word ∷ name ∷ more ∷ words) = None
+
+-- the words name no text but this one
+abbrev pub NamesNoOther : List (List ℕ) → List ℕ → Type 0
+NamesNoOther words name = (command : Command) (other : List ℕ) → command_of words ≡ Some (command, other) → name ≡ other

@@ -1,11 +1,10 @@
 //! The top call: runs a text over a stream of batches and prints the report.
 //!
-//! It stands on the readers of texts and of streams, the judge of texts, the definitions and the three traits of the outside,
-//! and never knows what a file, a terminal or a pipe is. Until crates of their own come, which texts are run (`built`), which batches may come
-//! (`batch`), the causal update (`causal`), the run from cycle to cycle (`engine`) and the bytes of the report (`report`) stand
-//! here as private modules. It carries the headline: the clauses `told` and `checked` of `lps` say for each answer what was
-//! printed, in the words of the definitions, and clauses `usage`, `unread`, `limit`, `silent` and `caused` say when each
-//! answer comes; a stream is judged in one way (`streams_are_judged_one_way`).
+//! It stands on the readers of texts and of streams, the judge of texts, the run from cycle to cycle, the bytes of the report
+//! and the three traits of the outside, and never knows what a file, a terminal or a pipe is. Which texts are run (`built`) and
+//! which batches may come (`batch`) stand here as private modules. It carries the headline: the clauses `told` and `checked` of
+//! `lps` say for each answer what was printed, in the words of the definitions, and clauses `usage`, `unread`, `limit`,
+//! `silent` and `caused` say when each answer comes; a stream is judged in one way (`streams_are_judged_one_way`).
 #![tactic(auto)]
 
 mod answer;
@@ -13,7 +12,6 @@ mod batch;
 mod built;
 mod laws;
 mod loading;
-mod report;
 mod stop;
 mod stream;
 mod top;

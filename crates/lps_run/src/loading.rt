@@ -41,7 +41,7 @@ fn load_more<T: Texts>(texts: &mut T, name: &str, bytes: &mut Vec<u8>) -> Result
     ensures same { (other : List ℕ) → T.text texts.new other ≡ T.text texts.old other }
     ensures told { (all rest : List ℕ) → T.text texts.old name.now ≡ Some all → all ≡ bytes.old.items ++ rest →
         MatchResult result (λ count. IsMore all bytes.new.items count) (λ error. FailsOnlyLong all error) }
-    ensures counted { LoadCounted result (T.faults texts.old) (T.faults texts.new) }
+    ensures counted { LoadCounted result (T.faults texts.old name.now) (T.faults texts.new name.now) }
 {
     let mut buffer = [0u8; 16384];
     let count = match texts.read(name, bytes.len() as u64, &mut buffer) {
@@ -60,7 +60,7 @@ fn load_more<T: Texts>(texts: &mut T, name: &str, bytes: &mut Vec<u8>) -> Result
 pub fn load<T: Texts>(alloc: Global, texts: &mut T, name: &str) -> Result<Vec<u8>, LoadError>
     ensures told { (all : List ℕ) → T.text texts.old name.now ≡ Some all →
         MatchResult result (λ bytes. bytes.items ≡ all) (λ error. FailsOnlyLong all error) }
-    ensures counted { LoadCounted result (T.faults texts.old) (T.faults texts.new) }
+    ensures counted { LoadCounted result (T.faults texts.old name.now) (T.faults texts.new name.now) }
 {
     let mut bytes = Vec::new(alloc);
     for turn in 0..MOST_READS {

@@ -1,4 +1,4 @@
-ghost use Rattle.std.specs.Prelude.{◌≡◌, ◌≤◌, ◌<◌, ◌+◌, ◌++◌, ◌∷◌, ◌^◌, [], List, ℕ, Option, Some, None, true, false, length, IfOk, IfErr, OnOk, OnErr, MatchResult};
+ghost use Rattle.std.specs.Prelude.{◌≡◌, ◌≤◌, ◌<◌, ◌+◌, ◌++◌, ◌∷◌, ◌^◌, [], List, ℕ, Option, Some, None, true, false, codes, length, IfOk, IfErr, OnOk, OnErr, MatchResult};
 ghost use Rattle.lps_terms.specs.declared.text.Text.{Text};
 ghost use Rattle.lps_facts.specs.Facts.{members};
 ghost use Rattle.lps_run.specs.Reporting.{block_of as block_text};
@@ -8,15 +8,15 @@ ghost use Rattle.lps_outside.specs.Causes.{Rose};
 ghost use Rattle.lps_run.specs.Stopping.{Counted, Reported, StopsAtLine, Stopped, TakesWithin, KeepsLimit};
 
 use crate::batch::batch_fault;
-use crate::report::write_block;
 use crate::stop::Stop;
 use lps_cycle::Engine;
 use lps_facts::Facts;
 use lps_formed::read_events_are_ground;
-use lps_meaning::report_law;
+use lps_meaning::{Counts, report_law};
 use lps_model::{Accepted, Batch, Cycle};
 use lps_outside::{Desk, Source};
 use lps_reader::{BatchBad, BatchReader};
+use lps_report::{Block, print_last_line};
 use std::alloc::{AllocError, Global};
 
 /// How many bytes a stream may have.
@@ -64,14 +64,34 @@ fn read_piece<E: Source>(events: &mut E, buffer: &mut [u8]) -> Result<usize, Sto
     }
 }
 
-/// The bytes of a block.
+/// The bytes of the block of a cycle in which no goal is created or closed.
 fn block_of(alloc: Global, number: u64, cycle: &Cycle, facts: &Facts) -> Result<Vec<u8>, AllocError>
-    requires { cycle.now.picks ≡ [] }
-    ensures { IfOk result (λ block. block.items ≡ block_text number cycle.now (members facts.now)) }
+    ensures { IfOk result (λ bytes. bytes.items ≡ block_text number cycle.now (members facts.now)) }
 {
-    let mut block = Vec::new(alloc);
-    write_block(&mut block, number, cycle, facts)?;
-    Ok(block)
+    let block = Block {
+        number,
+        cycle,
+        facts,
+        created: &[],
+        closed: &[],
+    };
+    let mut bytes = Vec::new(alloc);
+    block.print(&mut bytes)?;
+    Ok(bytes)
+}
+
+/// The bytes of the last line of a report without goals.
+fn last_line(alloc: Global) -> Result<Vec<u8>, AllocError>
+    ensures { IfOk result (λ bytes. bytes.items ≡ codes "done\n") }
+{
+    let none = Counts {
+        pending: 0,
+        failed: 0,
+        cut: 0,
+    };
+    let mut bytes = Vec::new(alloc);
+    print_last_line(none, &mut bytes)?;
+    Ok(bytes)
 }
 
 impl Running {
@@ -253,5 +273,6 @@ pub fn run<E: Source, D: Desk>(
 {
     let mut running = Running::begin(alloc, text, desk)?;
     running.take_stream(alloc, events, desk)?;
-    print(desk, b"done\n")
+    let last = last_line(alloc)?;
+    print(desk, last.as_slice())
 }

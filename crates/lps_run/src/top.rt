@@ -4,7 +4,7 @@ ghost use Rattle.lps_outside.specs.Bytes.{Stream};
 ghost use Rattle.lps_reader.specs.Texts.{IsReadOf};
 ghost use Rattle.lps_run.specs.declared.words.Command.TheVariants as asked;
 ghost use Rattle.lps_run.specs.Answers.{Answered, AnsweredCheck, Caused, EndsBeforeRun, IsAcceptedText, IsNoUsage, IsSilent, RefusedAs};
-ghost use Rattle.lps_run.specs.Words.{command_of as command_of_words, words_of};
+ghost use Rattle.lps_run.specs.Words.{NamesNoOther, command_of as command_of_words, words_of};
 
 use crate::answer::{Answer, UsageKind, answer_of};
 use crate::built::not_built;
@@ -52,8 +52,8 @@ fn text_of<T: Texts>(alloc: Global, texts: &mut T, name: &str) -> Result<Accepte
     ensures told { (all : List ℕ) → T.text texts.old name.now ≡ Some all →
         MatchResult result (IsAcceptedText all) (RefusedAs all) }
     ensures kind { IfErr result EndsBeforeRun }
-    ensures counted { MatchResult result (λ _. T.faults texts.new ≡ T.faults texts.old)
-        (λ answer. Caused answer (T.faults texts.old) (T.faults texts.new) 0 0 0 0) }
+    ensures counted { MatchResult result (λ _. T.faults texts.new name.now ≡ T.faults texts.old name.now)
+        (λ answer. Caused answer (T.faults texts.old name.now) (T.faults texts.new name.now) 0 0 0 0) }
 {
     match load(alloc, texts, name) {
         Ok(bytes) => accepted_text(alloc, bytes.as_slice()),
@@ -124,7 +124,7 @@ fn answer_command<T: Texts, E: Source, D: Desk>(
     ensures checked { (all start : List ℕ) → command ≡ asked.Check → T.text texts.old name.now ≡ Some all → D.printed desk.old ≡ Some start →
         AnsweredCheck all start (D.printed desk.new) result }
     ensures unread { command ≡ asked.Check → E.stream events.new ≡ E.stream events.old }
-    ensures caused { Caused result (T.faults texts.old) (T.faults texts.new) (E.faults events.old) (E.faults events.new) (D.print_faults desk.old) (D.print_faults desk.new) }
+    ensures caused { Caused result (T.faults texts.old name.now) (T.faults texts.new name.now) (E.faults events.old) (E.faults events.new) (D.print_faults desk.old) (D.print_faults desk.new) }
 {
     match text_of(alloc, texts, name) {
         Err(answer) => answer,
@@ -173,8 +173,9 @@ pub fn lps<T: Texts, E: Source, D: Desk>(
     // Before the run nothing is printed, also where the desk does not tell what is.
     ensures silent { IsSilent result → D.printed desk.new ≡ D.printed desk.old }
 
-    // A fault is answered only where its count rose, and each other answer only where no count did.
-    ensures caused { Caused result (T.faults texts.old) (T.faults texts.new) (E.faults events.old) (E.faults events.new) (D.print_faults desk.old) (D.print_faults desk.new) }
+    // A fault is answered only where its count rose, and each other answer only where no count did: of the named text alone,
+    // since nothing is known of its count once another text was read.
+    ensures caused { (name : List ℕ) → NamesNoOther (words_of words.now) name → Caused result (T.faults texts.old name) (T.faults texts.new name) (E.faults events.old) (E.faults events.new) (D.print_faults desk.old) (D.print_faults desk.new) }
 {
     match command_of(words) {
         Some((command, name)) => answer_command(alloc, command, name, texts, events, desk),

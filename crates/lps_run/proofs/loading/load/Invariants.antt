@@ -7,5 +7,5 @@ invariant-loop-turn g l = record {
   same : (other : List ℕ) → g.T.Texts.text l.texts other ≡ g.T.Texts.text l.fn.texts other;
   turns : l.turn ≤ length l.bytes.items;
   limit : length l.bytes.items ≤ 1048576;
-  counted : g.T.Texts.faults l.texts ≡ g.T.Texts.faults l.fn.texts;
+  counted : g.T.Texts.faults l.texts l.name ≡ g.T.Texts.faults l.fn.texts l.name;
 }

@@ -17,3 +17,8 @@ returns-in-Some-clause-told g c = λ name all before start is told known printed
     let run : c.in-Some.command ≡ asked.Run = ap command_in both in
     let same : name ≡ c.in-Some.name.now = ap name_in (sym both) in
     c.answer_command.ensures.told all before start run (subst (λ (n : List ℕ). g.T.Texts.text c.args.texts.now n ≡ Some all) same told) known printed
+
+pub returns-in-Some-clause-caused : goal.returns-in-Some-clause-caused
+returns-in-Some-clause-caused g c = λ name only.
+    let same : name ≡ c.in-Some.name.now = only c.in-Some.command c.in-Some.name.now c.in-Some.ensures in
+    rw same c.answer_command.ensures.caused
