@@ -36,7 +36,7 @@ pub key_values : (values : List Term) (times : List ℕ) (empty : Bool) → IsTr
     led_from (codes " with ") false (map printed values) ++ led_from (codes " with ") (not empty) (map decimal times) ≡ with_values (map printed values ++ map decimal times)
 key_values [] times true none = are_values (map decimal times)
 key_values [] times false none = absurd (let holds = none.1 refl in cc)
-key_values (value ∷ values) times true none = absurd (let holds = none.0 tt in cc)
+key_values (value ∷ values) times true none = absurd (let holds = none.0 refl in cc)
 key_values (value ∷ values) times false none =
     let first : List ℕ = codes " with " in
     let rest : List ℕ = led_from first true (map printed values) in

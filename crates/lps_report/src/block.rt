@@ -38,6 +38,7 @@ fn print_head(number: u64, out: &mut Vec<u8>) -> Result<(), AllocError>
 }
 
 /// Appends the line of a state.
+#[tactic(auto, using(crate::proofs::Pieces::same_listed))]
 fn print_state(facts: &Facts, out: &mut Vec<u8>) -> Result<(), AllocError>
     ensures { OnOk result (out.new.items ≡ out.old.items ++ (codes "state" ++ listed_from false (members facts.now) ++ codes "\n")) }
 {
@@ -51,14 +52,18 @@ impl<'a> Block<'a> {
     /// that is new or was closed. The error is that memory ran out; some of the block may then be appended.
     pub fn print(&self, out: &mut Vec<u8>) -> Result<(), AllocError>
         ensures { OnOk result (out.new.items ≡ out.old.items ++ block_text self.now.number (record {
-            cycle = self.now.cycle.now;
-            facts = members self.now.facts.now;
-            created = self.now.created.now;
-            closed = self.now.closed.now;
+          cycle = self.now.cycle.now;
+          facts = members self.now.facts.now;
+          created = self.now.created.now;
+          closed = self.now.closed.now;
         })) }
     {
         print_head(self.number, out)?;
-        print_verdicts(self.cycle.events.as_slice(), self.cycle.verdicts.as_slice(), out)?;
+        print_verdicts(
+            self.cycle.events.as_slice(),
+            self.cycle.verdicts.as_slice(),
+            out,
+        )?;
         print_picks(self.cycle.picks.as_slice(), out)?;
         print_state(self.facts, out)?;
         print_created(self.created, out)?;

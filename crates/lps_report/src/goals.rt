@@ -61,10 +61,7 @@ fn print_closed_goal(goal: GoalId, how: Closed, out: &mut Vec<u8>) -> Result<(),
 }
 
 /// Appends a line for each goal that was closed, in order.
-pub(crate) fn print_closed(
-    closed: &[(GoalId, Closed)],
-    out: &mut Vec<u8>,
-) -> Result<(), AllocError>
+pub(crate) fn print_closed(closed: &[(GoalId, Closed)], out: &mut Vec<u8>) -> Result<(), AllocError>
     ensures { OnOk result (out.new.items ≡ out.old.items ++ flat_map closed_line closed.now) }
 {
     for (goal, how) in closed {
