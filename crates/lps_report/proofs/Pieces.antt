@@ -8,7 +8,7 @@ use Rattle.lps_terms.specs.Printed.{atom_text, led, printed, separated}
 use Rattle.lps_model.specs.Report.{before_atom, listed_from}
 use Rattle.lps_facts.specs.Listed as facts
 use Rattle.lps_meaning.specs.Reports.{with_values}
-use Rattle.lps_report.specs.Listed.{lead, led_from}
+use Rattle.lps_report.specs.Listed.{led_from}
 
 -- ---- texts behind their leads
 

@@ -1,4 +1,4 @@
-use Rattle.std.proofs.Common.{◌≡◌, ◌∙◌, ◌≤◌, ◌++◌, List, [], ℕ, false, ap, sym, map, length, arith, append-nil}
+use Rattle.std.proofs.Common.{◌∙◌, ◌≤◌, ◌++◌, List, [], ℕ, ap, sym, map, length, arith, append-nil}
 use Rattle.std.proofs.lemmas.List.{at_drop_all}
 use Rattle.lps_terms.specs.declared.atom.Atom.{Atom}
 use Rattle.lps_terms.specs.Printed.{atom_text}
