@@ -7,6 +7,7 @@ use Rattle.lps_meaning.specs.declared.goal.Closed.TheVariants as c
 use Rattle.lps_meaning.specs.declared.goal.Counts.{Counts}
 use Rattle.lps_meaning.specs.declared.goal.GoalKey.{GoalKey}
 use Rattle.lps_meaning.specs.Goals.{IsClosed, HasStatus, IsMet, IsMetWithin, IsRuleTrue}
+use Rattle.lps_meaning.specs.Laws.{IsContinuation}
 use Rattle.lps_meaning.specs.Reports.{AreCounts}
 
 -- What is known of a goal at a time of a trace is known in every continuation of the trace and at every later time.

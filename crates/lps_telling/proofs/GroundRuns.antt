@@ -59,18 +59,18 @@ declared_named variables times (b.MacroClause head begin end items) h = tt
 
 module _ (text : Text) (formed : IsTrue (is_formed text)) where
   declarations_named : AllByRecursion IsNamed (declarations text)
-  declarations_named = of_flat (λ s. is_formed_statement s ≡ true) IsNamed (λ s. declared_in s.body) (λ s h. declared_named (length s.names) (length s.times) s.body (body_formed s h)) text.statements statements_formed
+  declarations_named = of_flat (λ s. is_formed_statement s ≡ true) IsNamed (λ s. declared_in s.body) (λ s h. declared_named (length s.names) (length s.times) s.body (body_formed s h)) text.statements (statements_formed text formed)
 
   -- ---- walks
 
   walk_formed : (level : List ℕ → ℕ) (trace : Trace) (given : List ℕ) (s : Values) (t : Times) (now : ℕ) (end place : Place) →
-      Walk text level trace given s t now end place → AreFormedEntries place.left → AreFormedEntries end.left
+      Walk text level trace given s t now end place → AreFormedEntries text formed place.left → AreFormedEntries text formed end.left
   walk_formed level trace given s t now end place Walk.stop h = h
   walk_formed level trace given s t now end place (Walk.pass env nest joins item rest left no_call is_true small placed walk) h =
-      walk_formed level trace given s t now end _ walk (subst AreFormedEntries left h).1
+      walk_formed level trace given s t now end _ walk (subst (AreFormedEntries text formed) left h).1
   walk_formed level trace given s t now end place (Walk.replace e rest a from to number clause left is_span macro of_text values times small walk) h =
       walk_formed level trace given s t now end _ walk
-      (all_joined (λ (e : Entry). IsFormedItem e.item) _ rest (entries_formed _ _ None clause.items (clause_of a.name number clause of_text)) (subst AreFormedEntries left h).1)
+      (all_joined (λ (e : Entry). IsFormedItem e.item) _ rest (entries_formed text formed _ _ None clause.items (clause_of text formed a.name number clause of_text)) (subst (AreFormedEntries text formed) left h).1)
 
   -- ---- picks
 
@@ -79,7 +79,7 @@ module _ (text : Text) (formed : IsTrue (is_formed text)) where
       ground_atom h.variables s ground a
       (both (is_formed_atom h.variables a) (nat_lt from.0 h.times) (both (is_formed_atom h.variables a && nat_lt from.0 h.times) (nat_lt to.0 h.times) h.formed).0).0
 
-  joined_ground : (s : Values) → AreGround s → (es : List Entry) → AreFormedEntries es → AllByRecursion IsGroundAtom (joined s es)
+  joined_ground : (s : Values) → AreGround s → (es : List Entry) → AreFormedEntries text formed es → AllByRecursion IsGroundAtom (joined s es)
   joined_ground s ground [] h = tt
   joined_ground s ground (e ∷ es) h = one e.joins e.item h.0 (joined_ground s ground es h.1) where
     one : (joins : Bool) (item : Item) → IsFormedItem item → AllByRecursion IsGroundAtom (joined s es) → AllByRecursion IsGroundAtom (joined_item s e.env joins item (joined s es))
@@ -98,9 +98,9 @@ module _ (text : Text) (formed : IsTrue (is_formed text)) where
   proposal_ground level depth trace key group h =
       let reaches = h.live.plan.reaches in
       let on = h.live.plan.on in
-      let rule = of_element IsFormedRule (rules text) reaches.rule rules_formed (number_contained (rules text) key.rule reaches.rule reaches.of_text) in
+      let rule = of_element IsFormedRule (rules text) reaches.rule (rules_formed text formed) (number_contained (rules text) key.rule reaches.rule reaches.of_text) in
       let items = of_element AreFormedItems reaches.rule.alternatives reaches.items rule (number_contained reaches.rule.alternatives reaches.alternative reaches.items reaches.of_rule) in
-      let left = subst AreFormedEntries on.is_next (walk_formed level trace _ reaches.values reaches.times _ h.end _ reaches.walk (entries_formed 0 0 None reaches.items items)) in
+      let left = subst (AreFormedEntries text formed) on.is_next (walk_formed level trace _ reaches.values reaches.times _ h.end _ reaches.walk (entries_formed text formed 0 0 None reaches.items items)) in
       let first = span_ground (reaches.values on.next.env) (reaches.ground on.next.env) h.group_of.atom h.group_of.from h.group_of.to (subst IsFormedItem h.group_of.item left.0) in
       let rest = joined_ground reaches.values reaches.ground on.rest left.1 in
       of_each IsGroundAtom group (λ a among. of_element IsGroundAtom (put_atom (reaches.values on.next.env) h.group_of.atom ∷ joined reaches.values on.rest) a (first, rest) ((h.group_of.exact a).0 among))
