@@ -3,10 +3,9 @@
 ghost use Rattle.std.specs.Prelude.{None, ◌≤◌, length, IfOk};
 
 use lps_outside::{Desk, Fault, Source, Texts};
-use std::fs;
-use std::io;
 use std::io::{ErrorKind, Read, Seek, SeekFrom, Write};
 use std::rt::Files;
+use std::{fs, io};
 
 /// How often a call is made again that a signal cut short.
 const MOST_TRIES: u32 = 1_000_000;

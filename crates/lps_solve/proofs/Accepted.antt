@@ -140,7 +140,7 @@ is_call : (text : Text) (head : Atom) (l : Lit) → is_called (kind_among (decla
 is_call text head l called = subst (λ test. Contains (cond test (call_at text head l ∷ []) []) (call_at text head l)) (sym called) (first_is_contained (call_at text head l) [])
 
 -- the levels of an accepted text are those of the calls of its clauses
-pub call_is_level : (text : Text) (level : List ℕ → ℕ) → model.AreLevels (calls text) level → (k : Clause) → Contains (clauses text) k → (l : Lit) → Contains k.conds (c.Lit l) →
+pub call_is_level : (text : Text) (level : List ℕ → ℕ) → model.AreCallLevels (calls text) level → (k : Clause) → Contains (clauses text) k → (l : Lit) → Contains k.conds (c.Lit l) →
     is_called (kind_among (declarations text) l.atom.name) ≡ true → model.IsLevel level (call_at text k.head l)
 call_is_level text level are k at l within called =
     let stated = is_stated text k at in
@@ -149,7 +149,7 @@ call_is_level text level are k at l within called =
     subst (λ body. Contains (calls_in (declarations text) body) (call_at text k.head l)) (sym stated.says) in_conds in
     are (call_at text k.head l) (flat_holds (λ (s : Statement). calls_in (declarations text) s.body) text.statements stated.statement (call_at text k.head l) stated.among in_body)
 
-levels : (text : Text) → IsAccepted text → (level : List ℕ → ℕ) → model.AreLevels (calls text) level → AreLevels (clauses text) level
+levels : (text : Text) → IsAccepted text → (level : List ℕ → ℕ) → model.AreCallLevels (calls text) level → AreLevels (clauses text) level
 levels text accepted level are = record {
   calls = λ k l at within defined.
       let called : is_called (kind_among (declarations text) l.atom.name) ≡ true =
