@@ -49,7 +49,7 @@ module _ (text : Text) (none : rules text ≡ []) where
   -- ---- one cycle
 
   abbrev pub legal : (level : List ℕ → ℕ) (trace : Trace) (events : List Atom) (verdicts : List Verdict) → length trace.cycles < 1000000 → length events ≤ 1000 →
-      AllByRecursion (IsOutside text level depth trace) events → AreJudged text level depth trace [] events verdicts →
+      AllByRecursion (IsOutside text) events → AreJudged text level trace [] events verdicts →
       IsLegal text level depth trace (record { events = events; verdicts = verdicts; picks = [] })
   legal level trace events verdicts room few outside judged = record {
     room = room;
@@ -63,7 +63,7 @@ module _ (text : Text) (none : rules text ≡ []) where
   }
 
   pub plain : (level : List ℕ → ℕ) (trace : Trace) (events : List Atom) (verdicts : List Verdict) → length trace.cycles < 1000000 → length events ≤ 1000 →
-      AllByRecursion (IsOutside text level depth trace) events → AreJudged text level depth trace [] events verdicts →
+      AllByRecursion (IsOutside text) events → AreJudged text level trace [] events verdicts →
       IsPlain text level depth Oldest trace (record { events = events; verdicts = verdicts; picks = [] })
   plain level trace events verdicts room few outside judged = record { legal = legal level trace events verdicts room few outside judged; passes = last refl refl }
 

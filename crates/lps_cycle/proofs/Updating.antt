@@ -97,7 +97,7 @@ judged_so text facts before together event (Some k) is judged level levels trace
 
 -- the events so far are judged: whatever the verdicts on the others are, they make up the verdicts on all
 pub record AreSoFar (text : Text) (facts all rest : List Atom) (verdicts : List Verdict) (kept : List Atom) : Type 0 where
-  pub judged : InState text facts (λ level trace. (more : List Verdict) → AreJudged text level depth trace kept rest more → AreJudged text level depth trace [] all (verdicts ++ more))
+  pub judged : InState text facts (λ level trace. (more : List Verdict) → AreJudged text level trace kept rest more → AreJudged text level trace [] all (verdicts ++ more))
   pub kept_are : (more : List Verdict) → admitted all (verdicts ++ more) ≡ kept ++ admitted rest more
 
 pub none_yet : (text : Text) (facts all : List Atom) → AreSoFar text facts all all [] []
@@ -107,20 +107,20 @@ pub one_more : (text : Text) (facts all : List Atom) (event : Atom) (rest : List
     AreSoFar text facts all (event ∷ rest) verdicts kept → IsVerdictIn text facts kept event verdict → AreSoFar text facts all rest (verdicts ++ verdict ∷ []) (kept ++ if_admitted verdict event)
 one_more text facts all event rest verdicts verdict kept so_far is = record {
   judged = λ level levels trace state more h.
-      subst (AreJudged text level depth trace [] all) (sym (append_assoc verdicts (verdict ∷ []) more)) (so_far.judged level levels trace state (verdict ∷ more) (is level levels trace state, h));
+      subst (AreJudged text level trace [] all) (sym (append_assoc verdicts (verdict ∷ []) more)) (so_far.judged level levels trace state (verdict ∷ more) (is level levels trace state, h));
   kept_are = λ more.
       ap (admitted all) (append_assoc verdicts (verdict ∷ []) more) ∙ so_far.kept_are (verdict ∷ more) ∙ sym (append_assoc kept (if_admitted verdict event) (admitted rest more));
 }
 
 pub all_judged : (text : Text) (facts all : List Atom) (verdicts : List Verdict) (kept : List Atom) → AreSoFar text facts all [] verdicts kept → AreAdmitted text facts all verdicts kept
 all_judged text facts all verdicts kept so_far = record {
-  judged = λ level levels trace state. subst (AreJudged text level depth trace [] all) (append-nil verdicts) (so_far.judged level levels trace state [] tt);
+  judged = λ level levels trace state. subst (AreJudged text level trace [] all) (append-nil verdicts) (so_far.judged level levels trace state [] tt);
   kept_are = sym (ap (admitted all) (sym (append-nil verdicts)) ∙ so_far.kept_are [] ∙ append-nil kept);
 }
 
 -- ---- the next cycle of a run
 
-outside : (text : Text) (level : List ℕ → ℕ) (trace : Trace) (events : List Atom) → AllByRecursion (MayCome text) events → AllByRecursion (IsOutside text level depth trace) events
+outside : (text : Text) (level : List ℕ → ℕ) (trace : Trace) (events : List Atom) → AllByRecursion (MayCome text) events → AllByRecursion (IsOutside text) events
 outside text level trace [] may = tt
 outside text level trace (event ∷ events) may = (may.0, outside text level trace events may.1)
 

@@ -26,11 +26,11 @@ InState text facts P = (level : List ℕ → ℕ) → AreLevels (clauses text) l
 
 -- the verdict on an event that comes with some admitted ones
 abbrev pub IsVerdictIn : Text → List Atom → List Atom → Atom → Verdict → Type 0
-IsVerdictIn text facts before event verdict = InState text facts (λ level trace. IsVerdict text level depth trace before event verdict)
+IsVerdictIn text facts before event verdict = InState text facts (λ level trace. IsVerdict text level trace before event verdict)
 
 -- the verdicts on the events of a batch, and the admitted ones of these
 pub record AreAdmitted (text : Text) (facts events : List Atom) (verdicts : List Verdict) (kept : List Atom) : Type 0 where
-  pub judged : InState text facts (λ level trace. AreJudged text level depth trace [] events verdicts)
+  pub judged : InState text facts (λ level trace. AreJudged text level trace [] events verdicts)
   pub kept_are : kept ≡ admitted events verdicts
 
 -- the facts after are the state that the events make of the facts before, which come in a cycle after a trace

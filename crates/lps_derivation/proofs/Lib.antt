@@ -3,4 +3,3 @@ pub mod Instances
 pub mod Trees
 pub mod Truth
 pub mod Reach
-mod Examples

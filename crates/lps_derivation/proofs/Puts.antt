@@ -2,7 +2,6 @@
 use Rattle.std.proofs.Common.{◌≡◌, ℕ, Bool, true, false, List, [], ◌∷◌, map, refl, sym, ap, ◌∙◌}
 use Rattle.std.specs.Prelude.{IsTrue, ◌&&◌}
 use Rattle.std.specs.List.{AllByRecursion, list_all}
-use Rattle.lps_terms.specs.declared.atom.Atom.{Atom}
 use Rattle.lps_terms.specs.declared.built.Built.{Built}
 use Rattle.lps_terms.specs.declared.built.Built.TheVariants as b
 use Rattle.lps_terms.specs.declared.cond.Cond.{Cond}
@@ -12,11 +11,10 @@ use Rattle.lps_terms.specs.declared.expr.Expr.TheVariants as e
 use Rattle.lps_terms.specs.declared.term.Term.{Term}
 use Rattle.lps_terms.specs.declared.term.Term.TheVariants as t
 use Rattle.lps_terms.specs.Forms.{term_ind}
-use Rattle.lps_terms.specs.Put.{put, put_atom, after, put-Int, put-Sym, put-App, put-put, put_atom-put_atom}
-use Rattle.lps_model.specs.Clauses.{Clause}
+use Rattle.lps_terms.specs.Put.{put, after, put-Int, put-Sym, put-App, put-put, put_atom-put_atom}
 use Rattle.lps_derivation.specs.Expressions.{put_expr, put_expr-Leaf, put_expr-Apply, expr_ind}
 use Rattle.lps_derivation.specs.Ground.{is_ground, is_ground-App, is_ground-Var}
-use Rattle.lps_derivation.specs.Instances.{put_built, put_cond, put_clause}
+use Rattle.lps_derivation.specs.Instances.{put_built, put_cond}
 
 module _ (s r : ℕ → Term) where
   pub put_expr-put_expr : (x : Expr) → put_expr s (put_expr r x) ≡ put_expr (after s r) x
@@ -35,13 +33,6 @@ module _ (s r : ℕ → Term) where
   pub put_cond-put_cond : (x : Cond) → put_cond s (put_cond r x) ≡ put_cond (after s r) x
   put_cond-put_cond (c.Lit l) = λ i. c.Lit (record { negated = l.negated; atom = put_atom-put_atom s r l.atom i })
   put_cond-put_cond (c.Built x) = ap (λ y. c.Built y) (put_built-put_built x)
-
-  put_all-put_all : (xs : List Cond) → map (put_cond s) (map (put_cond r) xs) ≡ map (put_cond (after s r)) xs
-  put_all-put_all [] = refl
-  put_all-put_all (x ∷ xs) = λ i. put_cond-put_cond x i ∷ put_all-put_all xs i
-
-  pub put_clause-put_clause : (k : Clause) → put_clause s (put_clause r k) ≡ put_clause (after s r) k
-  put_clause-put_clause k = λ i. record { head = put_atom-put_atom s r k.head i; conds = put_all-put_all k.conds i }
 
 -- ---- ground terms
 
@@ -65,10 +56,3 @@ module _ (s : ℕ → Term) where
   ground_stays = term_ind Stays (λ z h. put-Int s z) (λ n h. put-Sym s n)
       (λ n ts each h. put-App s n ts ∙ ap (t.App n) (all_stay ts each (second_of _ (list_all is_ground ts) (sym (is_ground-App n ts) ∙ h))))
       (λ v h. let no : is_ground (t.Var v) ≡ false = is_ground-Var v in absurd (cc))
-
-  every : (ts : List Term) → AllByRecursion Stays ts
-  every [] = tt
-  every (x ∷ xs) = (ground_stays x, every xs)
-
-  pub ground_atom_stays : (a : Atom) → IsTrue (list_all is_ground a.args) → put_atom s a ≡ a
-  ground_atom_stays a h = λ i. record { name = a.name; args = all_stay a.args (every a.args) h i }

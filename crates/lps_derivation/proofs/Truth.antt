@@ -7,7 +7,6 @@ use Rattle.lps_terms.specs.declared.built.Built.{Built}
 use Rattle.lps_terms.specs.declared.cond.Cond.{Cond}
 use Rattle.lps_terms.specs.declared.cond.Cond.TheVariants as c
 use Rattle.lps_terms.specs.declared.lit.Lit.{Lit}
-use Rattle.lps_terms.specs.Symbols.{atom_symbols_of}
 use Rattle.lps_model.specs.Clauses.{Clause}
 use Rattle.lps_derivation.specs.Levels.{IsDefined, AreLevels}
 use Rattle.lps_derivation.specs.Derivation.{Agrees, Tree, Trees, of_fact, of_clause, done, positive, negative, built, IsTrueBelow, IsDerived, IsMet, Follows}
@@ -112,8 +111,3 @@ module _ (IsTrueBuilt : Built → Type 0) (clauses : List Clause) (IsFact : Atom
     -- truth by one assignment of levels is truth by the other
     pub same_truth : (a : Atom) → IsDerived IsTrueBuilt clauses IsFact level a ↔ IsDerived IsTrueBuilt clauses IsFact other a
     same_truth a = same_below (suc (level a.name)) a (λ call. omega arith)
-
-  -- what is derived by a clause is small
-  pub small : {Fails : Atom → Type 0} {a : Atom} → Tree IsTrueBuilt clauses IsFact Fails a → IsFact a ⊎ (atom_symbols_of a ≤ 1024)
-  small (of_fact h) = inl h
-  small (of_clause instance of_clauses head trees) = inr (subst (λ b. atom_symbols_of b ≤ 1024) (sym head) of_clauses.small_head)

@@ -1,8 +1,7 @@
 -- The laws of derivation over a list of facts.
-use Rattle.std.specs.Prelude.{ℕ, Bool, ◌≤◌, ◌↔◌, ◌⊎◌, IsTrue, List, Contains}
+use Rattle.std.specs.Prelude.{ℕ, Bool, ◌↔◌, ◌⊎◌, IsTrue, List, Contains}
 use Rattle.lps_terms.specs.declared.atom.Atom.{Atom}
 use Rattle.lps_terms.specs.declared.built.Built.{Built}
-use Rattle.lps_terms.specs.Symbols.{atom_symbols_of}
 use Rattle.lps_model.specs.Clauses.{Clause}
 use Rattle.lps_derivation.specs.Derivation.{IsDerived, Follows}
 use Rattle.lps_derivation.specs.Levels.{AreLevels, AreClosed}
@@ -30,8 +29,3 @@ abbrev pub OtherFactsDoNotMatter : Type 0
 OtherFactsDoNotMatter = (test : Built → Bool) (program : List Clause) (names : List ℕ → Bool) → AreClosed program names → (facts others : List Atom) →
     ((a : Atom) → IsTrue (names a.name) → Contains facts a ↔ Contains others a) → (level : List ℕ → ℕ) (a : Atom) → IsTrue (names a.name) →
     IsDerivedFrom test program facts level a ↔ IsDerivedFrom test program others level a
-
--- what is true and is no fact has at most 1,024 symbols
-abbrev pub DerivedIsSmall : Type 0
-DerivedIsSmall = (test : Built → Bool) (program : List Clause) (facts : List Atom) (level : List ℕ → ℕ) (a : Atom) → IsDerivedFrom test program facts level a →
-    Contains facts a ⊎ (atom_symbols_of a ≤ 1024)

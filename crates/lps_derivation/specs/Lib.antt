@@ -4,4 +4,3 @@ pub mod Instances
 pub mod Derivation
 pub mod Levels
 pub mod Laws
-pub mod Examples

@@ -7,4 +7,4 @@
 
 mod laws;
 
-pub use laws::{example_law, ground_law, instance_law, level_law, reach_law, size_law, truth_law};
+pub use laws::{level_law, reach_law, truth_law};

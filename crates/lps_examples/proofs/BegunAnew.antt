@@ -10,7 +10,7 @@ use Rattle.lps_model.proofs.Elements.{nothing_contained, first_is_contained}
 use Rattle.lps_derivation.specs.Derivation.{of_fact}
 use Rattle.lps_meaning.specs.Cycles.{IsProposal}
 use Rattle.lps_examples.specs.Examples.{from_to, at_time, event_e, fluent_p, action_a, anew_text, anew_trace, anew_key}
-use Rattle.lps_meaning.specs.Goals.{Reaches, IsMetWithin, IsLive, IsPending, shared_values}
+use Rattle.lps_meaning.specs.Goals.{Reaches, IsFulfilledWithin, IsLive, IsPending, shared_values}
 use Rattle.lps_meaning.specs.Holds.{Holds, IsTrueAt}
 use Rattle.lps_meaning.specs.Items.{IsSmallItem, put_item}
 use Rattle.lps_model.specs.Rules.{Rule, numbered}
@@ -115,7 +115,7 @@ module _ (level : List ℕ → ℕ) where
           ]
         ]
 
-  not_met : IsMetWithin anew_text level anew_trace 100 anew_key 2 → ⊥
+  not_met : IsFulfilledWithin anew_text level anew_trace 100 anew_key 2 → ⊥
   not_met h =
       elim (where_is 2 h.met.end h.met.reaches) [
         | inl e ↦ not_empty entry_p (entry_a ∷ []) (sym (ap (λ p. p.left) e) ∙ h.met.whole)

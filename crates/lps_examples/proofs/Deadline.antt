@@ -9,7 +9,7 @@ use Rattle.lps_model.specs.Trace.{events_at}
 use Rattle.lps_model.proofs.Elements.{nothing_contained}
 use Rattle.lps_meaning.specs.declared.goal.Closed.TheVariants as c
 use Rattle.lps_examples.specs.Examples.{from_to, at_most, event_e, action_a, deadline_text, deadline_trace, deadline_key}
-use Rattle.lps_meaning.specs.Goals.{IsGoal, Reaches, IsMetWithin, HasLive, HasMetCut, IsPending, IsClosed, shared_values, shared_times}
+use Rattle.lps_meaning.specs.Goals.{IsGoal, Reaches, IsFulfilledWithin, HasLive, HasMetCut, IsPending, IsClosed, shared_values, shared_times}
 use Rattle.lps_meaning.specs.Items.{IsSmallItem, put_item}
 use Rattle.lps_model.specs.Rules.{Rule, numbered}
 use Rattle.lps_meaning.specs.Sequences.{Entry, Place, Walk, stop, pass, AreLimits, AreInOrder, IsAhead, IsSmallSoFar, start, is_call}
@@ -125,7 +125,7 @@ module _ (level : List ℕ → ℕ) where
           | inr g ↦ absurd (never (r.times 0 3) (r.values 0) g.is_true.1)
         ]
 
-  not_met : (now : ℕ) → IsMetWithin deadline_text level deadline_trace 100 deadline_key now → ⊥
+  not_met : (now : ℕ) → IsFulfilledWithin deadline_text level deadline_trace 100 deadline_key now → ⊥
   not_met now h = not_empty first_entry (second_entry ∷ []) (sym (ap (λ p. p.left) (at_begin now h.met.end h.met.reaches)) ∙ h.met.whole)
 
   not_cut : (now : ℕ) → HasMetCut deadline_text level deadline_trace 100 deadline_key now → ⊥

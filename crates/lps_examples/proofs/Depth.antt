@@ -4,7 +4,7 @@ use Rattle.std.specs.Prelude.{Some, codes}
 use Rattle.lps_terms.specs.declared.item.Item.{Item}
 use Rattle.lps_meaning.specs.declared.goal.Closed.TheVariants as c
 use Rattle.lps_examples.specs.Examples.{from_to, event_e, action_a, call_m, depth_text, depth_trace, depth_key}
-use Rattle.lps_meaning.specs.Goals.{Reaches, IsMetWithin, HasLive, IsLive, IsCut, IsPending, IsClosed, shared_values, shared_times}
+use Rattle.lps_meaning.specs.Goals.{Reaches, IsFulfilledWithin, HasLive, IsLive, IsCut, IsPending, IsClosed, shared_values, shared_times}
 use Rattle.lps_meaning.specs.Items.{IsSmallItem, put_item}
 use Rattle.lps_model.specs.Rules.{Rule, MacroClause, numbered}
 use Rattle.lps_meaning.specs.Sequences.{Entry, Place, Values, Times, Walk, stop, pass, replace, passed, replaced, link_at, IsSmallSoFar, IsAhead, IsWithin, HasSameTimes, start, is_call}
@@ -185,7 +185,7 @@ module _ (level : List ℕ → ℕ) where
   left_is : {end place : Place} → end ≡ place → place.left ≡ end.left
   left_is e = sym (ap (λ p. p.left) e)
 
-  not_met_one : IsMetWithin depth_text level depth_trace 1 depth_key 2 → ⊥
+  not_met_one : IsFulfilledWithin depth_text level depth_trace 1 depth_key 2 → ⊥
   not_met_one h =
       elim (where_is 2 h.met.end h.met.reaches) [
         | inl e ↦ not_empty outer_call [] (left_is e ∙ h.met.whole)
@@ -219,7 +219,7 @@ module _ (level : List ℕ → ℕ) where
         | inr g ↦ let over = g.is_true.0 in let one = g.placed.0 in let later = g.placed.1 in omega (arith, over, one, later)
       ]
 
-  not_met_two : IsMetWithin depth_text level depth_trace 2 depth_key 2 → ⊥
+  not_met_two : IsFulfilledWithin depth_text level depth_trace 2 depth_key 2 → ⊥
   not_met_two h =
       elim (where_is 2 h.met.end h.met.reaches) [
         | inl e ↦ not_empty outer_call [] (left_is e ∙ h.met.whole)

@@ -16,7 +16,7 @@ use Rattle.lps_model.specs.declared.trace.Trace.{Trace}
 use Rattle.lps_model.proofs.Elements.{first_or_later, nothing_contained}
 use Rattle.lps_derivation.specs.Ground.{is_ground-Sym}
 use Rattle.lps_meaning.specs.Items.{put_item, IsSmallItem}
-use Rattle.lps_meaning.specs.Goals.{AreGround}
+use Rattle.lps_meaning.specs.Goals.{AreAllGround}
 use Rattle.lps_model.specs.Rules.{MacroClause, numbered, clauses_of, is_macro, kind_of}
 use Rattle.lps_meaning.specs.Sequences.{Entry, Place, Values, Times, Walk, stop, pass, replace, passed, replaced, link_at, IsTrueItem, IsPlaced, HasSameValues, HasSameTimes, is_call}
 
@@ -59,7 +59,7 @@ constant = t.Sym (codes "k")
 abbrev pub constants : Values
 constants env v = t.Sym (codes "k")
 
-pub constants_ground : AreGround constants
+pub constants_ground : AreAllGround constants
 unfolding is_proper_name reserved
 constants_ground env v = is_ground-Sym (codes "k")
 

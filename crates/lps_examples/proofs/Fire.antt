@@ -12,7 +12,7 @@ use Rattle.lps_meaning.specs.declared.goal.Closed.TheVariants as c
 use Rattle.lps_meaning.specs.declared.goal.GoalKey.{GoalKey}
 use Rattle.lps_meaning.specs.Cycles.{key_cmp, AreGoals}
 use Rattle.lps_examples.specs.Examples.{from_to, at_time, fluent_fire, event_spark, action_eliminate, fire_text, fire_trace, fire_key}
-use Rattle.lps_meaning.specs.Goals.{IsGoal, HasInstance, IsMetWithin, HasLive, IsPending, IsClosed, shared_values}
+use Rattle.lps_meaning.specs.Goals.{IsGoal, HasInstance, IsFulfilledWithin, HasLive, IsPending, IsClosed, shared_values}
 use Rattle.lps_meaning.specs.Holds.{Holds, Initiated}
 use Rattle.lps_model.specs.Rules.{Rule, numbered}
 use Rattle.lps_meaning.specs.Sequences.{Entry, Place, Walk, stop, pass, passed, start}
@@ -169,7 +169,7 @@ module _ (level : List ℕ → ℕ) where
     },
   )
 
-  not_met : IsMetWithin fire_text level fire_trace 100 fire_key 1 → ⊥
+  not_met : IsFulfilledWithin fire_text level fire_trace 100 fire_key 1 → ⊥
   not_met h =
       let r = h.met.reaches in
       let rule : the_rule ≡ r.rule = some_of r.of_text in
@@ -181,7 +181,7 @@ module _ (level : List ℕ → ℕ) where
         | inr g ↦ not_yet (r.times 0 2) (r.values 0) g.is_true.0 g.is_true.1
       ]
 
-  met : IsMetWithin fire_text level fire_trace 100 fire_key 2
+  met : IsFulfilledWithin fire_text level fire_trace 100 fire_key 2
   met = record {
     met = record {
       end = _;

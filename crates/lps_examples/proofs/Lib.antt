@@ -13,3 +13,4 @@ mod ParcelOffice
 mod RejectExample
 mod StateExamples
 mod Waiting
+mod Derivations

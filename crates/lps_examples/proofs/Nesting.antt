@@ -11,7 +11,7 @@ use Rattle.lps_model.specs.Trace.{events_at}
 use Rattle.lps_model.proofs.Elements.{nothing_contained}
 use Rattle.lps_meaning.specs.declared.goal.Closed.TheVariants as c
 use Rattle.lps_examples.specs.Examples.{from_to, nullary, event_e, action_a, nesting_text, nesting_trace, nesting_key}
-use Rattle.lps_meaning.specs.Goals.{Reaches, IsMetWithin, HasLive, IsLive, IsCut, IsPending, IsClosed, shared_values}
+use Rattle.lps_meaning.specs.Goals.{Reaches, IsFulfilledWithin, HasLive, IsLive, IsCut, IsPending, IsClosed, shared_values}
 use Rattle.lps_model.specs.Rules.{Rule, MacroClause, numbered, clauses_of, kind_of, is_macro}
 use Rattle.lps_meaning.specs.Sequences.{Entry, Place, Times, Walk, stop, replace, replaced, link_at, AreAlike, IsSmallSoFar, IsWithin, start, is_call}
 use Rattle.lps_examples.proofs.ExampleWalks.{first_same, not_empty, other_letter, only_one, constants, constants_ground, stops_or_passes, stops_or_replaces, some_of, only_numbered, small_atom}
@@ -247,7 +247,7 @@ module _ (level : List ℕ → ℕ) where
         (λ w3. then (call_in 3 at_3 m4 (clause m4 m5) refl refl refl w3)
         (λ w4. then (call_in 4 at_4 m5 (clause m5 (codes "a")) refl refl refl w4) at_action))))
 
-  not_met : (depth : ℕ) → IsMetWithin nesting_text level nesting_trace depth nesting_key 1 → ⊥
+  not_met : (depth : ℕ) → IsFulfilledWithin nesting_text level nesting_trace depth nesting_key 1 → ⊥
   not_met depth h =
       elim (where_is h.met.end h.met.reaches) [
         | inl call ↦ not_empty call.next [] (sym call.left ∙ h.met.whole)

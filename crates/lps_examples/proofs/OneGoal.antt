@@ -17,7 +17,7 @@ use Rattle.lps_derivation.specs.Ground.{is_ground-Sym}
 use Rattle.lps_meaning.specs.declared.goal.GoalKey.{GoalKey}
 use Rattle.lps_meaning.specs.Cycles.{key_cmp, AreGoals}
 use Rattle.lps_examples.specs.Examples.{from_to, unary, action_a, one_goal_text, one_goal_trace, one_goal_key}
-use Rattle.lps_meaning.specs.Goals.{IsGoal, AreGround, HasInstance, distinct, shared_values}
+use Rattle.lps_meaning.specs.Goals.{IsGoal, AreAllGround, HasInstance, distinct, shared_values}
 use Rattle.lps_model.specs.Rules.{Rule}
 use Rattle.lps_meaning.specs.Sequences.{Entry, Place, Values, Times, Walk, stop, pass, passed, start}
 use Rattle.lps_examples.proofs.ExampleWalks.{not_empty, only_one, stops_or_passes, stops, only_numbered, one_sorted}
@@ -42,7 +42,7 @@ nothing_shared =
 abbrev all_p : Values
 all_p env v = t.Sym (codes "p")
 
-p_is_ground : AreGround all_p
+p_is_ground : AreAllGround all_p
 unfolding is_proper_name reserved
 p_is_ground env v = is_ground-Sym (codes "p")
 

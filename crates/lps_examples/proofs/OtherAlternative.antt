@@ -7,7 +7,7 @@ use Rattle.lps_terms.specs.Put.{put_atom}
 use Rattle.lps_model.specs.Trace.{events_at}
 use Rattle.lps_model.proofs.Elements.{nothing_contained}
 use Rattle.lps_examples.specs.Examples.{from_to, at_most, event_e, action_a, action_c, other_text, other_trace, other_key}
-use Rattle.lps_meaning.specs.Goals.{Reaches, IsMetWithin, HasLive, IsPending, shared_values, shared_times}
+use Rattle.lps_meaning.specs.Goals.{Reaches, IsFulfilledWithin, HasLive, IsPending, shared_values, shared_times}
 use Rattle.lps_model.specs.Rules.{Rule, numbered}
 use Rattle.lps_meaning.specs.Sequences.{Entry, Place, Walk, stop, AreLimits, AreInOrder, IsAhead, start}
 use Rattle.lps_examples.proofs.Deadline.{too_late}
@@ -128,7 +128,7 @@ module _ (level : List ℕ → ℕ) where
               ]
         ]
 
-  not_met : IsMetWithin other_text level other_trace 100 other_key 3 → ⊥
+  not_met : IsFulfilledWithin other_text level other_trace 100 other_key 3 → ⊥
   not_met h =
       elim (where_is 3 h.met.end h.met.reaches) [
         | inl first ↦ not_empty entry_a (entry_limit ∷ []) (sym (ap (λ p. p.left) first.1) ∙ h.met.whole)

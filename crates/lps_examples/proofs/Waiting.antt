@@ -12,7 +12,7 @@ use Rattle.lps_model.specs.Trace.{events_at}
 use Rattle.lps_model.proofs.Elements.{nothing_contained}
 use Rattle.lps_meaning.specs.Cycles.{IsProposal}
 use Rattle.lps_examples.specs.Examples.{from_to, event_e, event_f, action_a, action_c, waiting_text, waiting_trace, waiting_key}
-use Rattle.lps_meaning.specs.Goals.{Reaches, IsMetWithin, IsLive, IsPending, shared_values}
+use Rattle.lps_meaning.specs.Goals.{Reaches, IsFulfilledWithin, IsLive, IsPending, shared_values}
 use Rattle.lps_meaning.specs.Items.{IsSmallItem, put_item}
 use Rattle.lps_model.specs.Rules.{Rule, numbered, kind_of}
 use Rattle.lps_meaning.specs.Sequences.{Entry, Place, Times, Walk, stop, pass, passed, IsSmallSoFar, start, done}
@@ -117,7 +117,7 @@ module _ (level : List ℕ → ℕ) where
           ]
         ]
 
-  not_met : IsMetWithin waiting_text level waiting_trace 100 waiting_key 2 → ⊥
+  not_met : IsFulfilledWithin waiting_text level waiting_trace 100 waiting_key 2 → ⊥
   not_met h =
       elim (where_is 2 h.met.end h.met.reaches) [
         | inl e ↦ not_empty entry_a (entry_f ∷ entry_c ∷ []) (sym (ap (λ p. p.left) e) ∙ h.met.whole)

@@ -1,6 +1,7 @@
-//! The worked examples, as the contract of a function that does nothing.
+//! The worked examples, each a clause of the contract of a function that does nothing.
 
 ghost use Rattle.lps_examples.specs.Examples.{BegunAnewExample, DeadlineExample, DepthExample, FireExample, InitiationWinsExample, NestingExample, NodeExample, OldStateExample, OneAfterOtherExample, OneGoalExample, OneOrderExample, OtherAlternativeExample, ParcelOfficeExample, RejectExample, WaitingExample};
+ghost use Rattle.lps_examples.specs.Derivations.{ExampleHasLevels, OneAnswer};
 
 /// Small texts with traces. States and denials: what is initiated and terminated at once, conditions read in the state
 /// before, and events that are rejected. Goals: one that is solved, a deadline that passes, another alternative, one goal
@@ -22,4 +23,10 @@ pub fn example_law()
     ensures fire { FireExample }
     ensures other_alternative { OtherAlternativeExample }
     ensures parcel_office { ParcelOfficeExample }
+{}
+
+/// A small program with a negated literal and two clauses for one predicate has levels, and one answer.
+pub fn derivation_law()
+    ensures levels { ExampleHasLevels }
+    ensures answer { OneAnswer }
 {}

@@ -15,7 +15,7 @@ use Rattle.lps_meaning.specs.declared.goal.GoalKey.{GoalKey}
 use Rattle.lps_meaning.specs.Holds.{Causes, Holds, CausedIn, IsTrueAt, IsTrueLit}
 use Rattle.lps_meaning.specs.Items.{put_item}
 use Rattle.lps_meaning.specs.Sequences.{Place, Values, Times, Walk, stop, pass, replace, IsTrueItem}
-use Rattle.lps_meaning.specs.Goals.{Reaches, IsGoal, IsMet, IsMetWithin, IsPlan, HasLive, HasMetCut, HasStatus, shared_values}
+use Rattle.lps_meaning.specs.Goals.{Reaches, IsGoal, IsFulfilled, IsFulfilledWithin, IsPlan, HasLive, HasMetCut, HasStatus, shared_values}
 use Rattle.lps_meaning.specs.Laws.{IsContinuation}
 use Rattle.lps_meaning.proofs.Persistence.{true_same, agrees_same, causes_same, start_law, update_law, turn}
 
@@ -107,13 +107,13 @@ module _ (text : Text) (level : List ℕ → ℕ) where
         walk = walk_same (shared_values h.rule) h.values h.times le h.walk;
       }
 
-      met_same : (upto : ℕ) → upto ≤ now → IsMet text level trace key upto → IsMet text level other key upto
+      met_same : (upto : ℕ) → upto ≤ now → IsFulfilled text level trace key upto → IsFulfilled text level other key upto
       met_same upto le h = record { end = h.end; reaches = reaches_same upto h.end le h.reaches; whole = h.whole; limits = h.limits }
 
       abbrev plan_same : (depth upto : ℕ) (end : Place) → upto ≤ now → IsPlan text level trace depth key upto end → IsPlan text level other depth key upto end
       plan_same depth upto end le h = record { reaches = reaches_same upto end le h.reaches; within = h.within; on = h.on }
 
-      pub met_within_same : (depth upto : ℕ) → upto ≤ now → IsMetWithin text level trace depth key upto → IsMetWithin text level other depth key upto
+      pub met_within_same : (depth upto : ℕ) → upto ≤ now → IsFulfilledWithin text level trace depth key upto → IsFulfilledWithin text level other depth key upto
       met_within_same depth upto le h = record {
         met = record { end = h.met.end; reaches = reaches_same upto h.met.end le h.met.reaches; whole = h.met.whole; limits = h.met.limits };
         within = h.within;

@@ -65,7 +65,7 @@ module _ (text : Text) (level : List ℕ → ℕ) (trace : Trace) where
 
   module _ (depth : ℕ) where
     judged : (before events : List Atom) (verdicts : List Verdict) → ViolatesNone text level trace before →
-        AreJudged text level depth trace before events verdicts → ViolatesNone text level trace (before ++ admitted events verdicts)
+        AreJudged text level trace before events verdicts → ViolatesNone text level trace (before ++ admitted events verdicts)
     judged before [] [] none are = subst (ViolatesNone text level trace) (sym (append-nil before)) none
     judged before [] (verdict ∷ verdicts) none are = absurd are
     judged before (event ∷ events) [] none are = absurd are
@@ -73,7 +73,7 @@ module _ (text : Text) (level : List ℕ → ℕ) (trace : Trace) where
         subst (ViolatesNone text level trace) (append_assoc before (event ∷ []) (admitted events verdicts))
         (judged (before ++ event ∷ []) events verdicts are.0 are.1)
     judged before (event ∷ events) (Rejected k ∷ verdicts) none are =
-        judged before events verdicts none (subst (λ so_far. AreJudged text level depth trace so_far events verdicts) (append-nil before) are.1)
+        judged before events verdicts none (subst (λ so_far. AreJudged text level trace so_far events verdicts) (append-nil before) are.1)
 
     picked : (keys : List GoalKey) (taken : List ℕ) (before : List Atom) (picks : List Pick) → ViolatesNone text level trace before →
         ArePicks text level depth trace keys taken before picks → ViolatesNone text level trace (before ++ flat_map (λ pick. pick.group.atoms) picks)

@@ -22,7 +22,7 @@ use Rattle.lps_model.proofs.Elements.{sorted_same}
 use Rattle.lps_meaning.specs.declared.goal.GoalKey.{GoalKey}
 use Rattle.lps_meaning.specs.Denials.{IsLeastViolated}
 use Rattle.lps_meaning.specs.Cycles.{IsVerdict, AreJudged, AreLegal, IsRun}
-use Rattle.lps_meaning.specs.Plain.{Ranked, ranked_cmp, order_of, IsFirstOffer, IsPassedOver, IsGiven, pick_of, Pass, Passes, last, more, IsPlain, ArePlain, IsPlainRun}
+use Rattle.lps_meaning.specs.Plain.{Ranked, ranked_cmp, order_of, IsFirstOffer, IsPassedOver, IsGiven, pick_of, Pass, AllPasses, last, more, IsPlain, ArePlain, IsPlainRun}
 use Rattle.lps_meaning.proofs.Numbers.{both_equal, goals_unique, some_same}
 use Rattle.lps_meaning.proofs.Splits.{le_or_lt}
 
@@ -36,13 +36,13 @@ module _ (text : Text) (level : List ℕ → ℕ) (depth : ℕ) (trace : Trace) 
         | inr lt ↦ absurd (one.1 k lt other.0)
       ]
 
-  verdict_unique : (before : List Atom) (event : Atom) (one other : Verdict) → IsVerdict text level depth trace before event one → IsVerdict text level depth trace before event other → one ≡ other
+  verdict_unique : (before : List Atom) (event : Atom) (one other : Verdict) → IsVerdict text level trace before event one → IsVerdict text level trace before event other → one ≡ other
   verdict_unique before event Admitted Admitted h k = refl
   verdict_unique before event Admitted (Rejected j) h k = absurd (h j k.0)
   verdict_unique before event (Rejected i) Admitted h k = absurd (k i h.0)
   verdict_unique before event (Rejected i) (Rejected j) h k = ap (λ n. Rejected n) (least_unique (before ++ event ∷ []) i j h k)
 
-  pub verdicts_unique : (before events : List Atom) (one other : List Verdict) → AreJudged text level depth trace before events one → AreJudged text level depth trace before events other → one ≡ other
+  pub verdicts_unique : (before events : List Atom) (one other : List Verdict) → AreJudged text level trace before events one → AreJudged text level trace before events other → one ≡ other
   verdicts_unique before [] [] [] h k = refl
   verdicts_unique before [] [] (v ∷ vs) h k = absurd k
   verdicts_unique before [] (u ∷ us) other h k = absurd h
@@ -50,7 +50,7 @@ module _ (text : Text) (level : List ℕ → ℕ) (depth : ℕ) (trace : Trace) 
   verdicts_unique before (event ∷ events) (u ∷ us) [] h k = absurd k
   verdicts_unique before (event ∷ events) (u ∷ us) (v ∷ vs) h k =
       let same = verdict_unique before event u v h.0 k.0 in
-      let rest = verdicts_unique (before ++ if_admitted v event) events us vs (subst (λ w. AreJudged text level depth trace (before ++ if_admitted w event) events us) same h.1) k.1 in
+      let rest = verdicts_unique (before ++ if_admitted v event) events us vs (subst (λ w. AreJudged text level trace (before ++ if_admitted w event) events us) same h.1) k.1 in
       λ i. same i ∷ rest i
 
 -- ---- picks
@@ -106,15 +106,15 @@ module _ (text : Text) (level : List ℕ → ℕ) (depth : ℕ) (trace : Trace) 
   none_some : (pick : Pick) (picks : List Pick) → ◌≡◌ {A = List Pick} [] (pick ∷ picks) → ⊥
   none_some pick picks e = cc
 
-  pub passes_unique : (order : List ℕ) {taken : List ℕ} {events : List Atom} {one other : List Pick} → Passes text level depth trace keys order taken events one →
-      Passes text level depth trace keys order taken events other → one ≡ other
+  pub passes_unique : (order : List ℕ) {taken : List ℕ} {events : List Atom} {one other : List Pick} → AllPasses text level depth trace keys order taken events one →
+      AllPasses text level depth trace keys order taken events other → one ≡ other
   passes_unique order (last pass none) (last pass' none') = none ∙ sym none'
   passes_unique order {taken} {events} (last pass none) (more pick picks rest pass' passes' all') = absurd (none_some pick picks (pass_unique order taken events [] (pick ∷ picks) pass pass'))
   passes_unique order {taken} {events} (more pick picks rest pass passes all) (last pass' none') = absurd (none_some pick picks (pass_unique order taken events [] (pick ∷ picks) pass' pass))
   passes_unique order {taken} {events} (more pick picks rest pass passes all) (more pick' picks' rest' pass' passes' all') =
       let same : pick ∷ picks ≡ pick' ∷ picks' = pass_unique order taken events (pick ∷ picks) (pick' ∷ picks') pass pass' in
       let more_same = passes_unique order
-      (subst (λ ps. Passes text level depth trace keys order (map (λ p. p.goal) ps ++ taken) (events ++ flat_map (λ p. p.group.atoms) ps) rest) same passes) passes' in
+      (subst (λ ps. AllPasses text level depth trace keys order (map (λ p. p.goal) ps ++ taken) (events ++ flat_map (λ p. p.group.atoms) ps) rest) same passes) passes' in
       all ∙ (λ i. same i ++ more_same i) ∙ sym all'
 
 -- ---- cycles and runs
@@ -124,12 +124,12 @@ module _ (text : Text) (level : List ℕ → ℕ) (depth : ℕ) (prefer : Prefer
   cycle_unique trace one other h k events =
       let verdicts : one.verdicts ≡ other.verdicts =
       verdicts_unique text level depth trace [] other.events one.verdicts other.verdicts
-      (subst (λ es. AreJudged text level depth trace [] es one.verdicts) events h.legal.judged) k.legal.judged in
+      (subst (λ es. AreJudged text level trace [] es one.verdicts) events h.legal.judged) k.legal.judged in
       let keys : h.legal.keys ≡ k.legal.keys = goals_unique text level trace (length trace.cycles) h.legal.keys k.legal.keys h.legal.goals k.legal.goals in
-      let passes : Passes text level depth trace k.legal.keys (order_of prefer (length k.legal.keys)) [] (admitted other.events other.verdicts) one.picks =
-      subst (λ es. Passes text level depth trace k.legal.keys (order_of prefer (length k.legal.keys)) [] (admitted es other.verdicts) one.picks) events
-      (subst (λ vs. Passes text level depth trace k.legal.keys (order_of prefer (length k.legal.keys)) [] (admitted one.events vs) one.picks) verdicts
-      (subst (λ ks. Passes text level depth trace ks (order_of prefer (length ks)) [] (admitted one.events one.verdicts) one.picks) keys h.passes)) in
+      let passes : AllPasses text level depth trace k.legal.keys (order_of prefer (length k.legal.keys)) [] (admitted other.events other.verdicts) one.picks =
+      subst (λ es. AllPasses text level depth trace k.legal.keys (order_of prefer (length k.legal.keys)) [] (admitted es other.verdicts) one.picks) events
+      (subst (λ vs. AllPasses text level depth trace k.legal.keys (order_of prefer (length k.legal.keys)) [] (admitted one.events vs) one.picks) verdicts
+      (subst (λ ks. AllPasses text level depth trace ks (order_of prefer (length ks)) [] (admitted one.events one.verdicts) one.picks) keys h.passes)) in
       let picks : one.picks ≡ other.picks = passes_unique text level depth trace k.legal.keys (order_of prefer (length k.legal.keys)) passes k.passes in
       λ i. record { events = events i; verdicts = verdicts i; picks = picks i }
 

@@ -39,6 +39,25 @@ pub record AreGoals (text : Text) (level : List ℕ → ℕ) (trace : Trace) (no
   pub sorted : IsStrictlySortedBy key_cmp keys
   pub exact : (key : GoalKey) → Contains keys key ↔ ((key.time ≤ now) × IsGoal text level trace key)
 
+-- ---- events of a batch
+
+-- an event that a batch may bring: ground, and declared as an event with its number of arguments
+abbrev pub IsOutside : Text → Atom → Type 0
+IsOutside text event = IsExternal text event × IsTrue (list_all is_ground event.args)
+
+module _ (text : Text) (level : List ℕ → ℕ) (trace : Trace) where
+  -- an event is admitted where no denial is violated by it with the events before, else rejected by the least one that is
+  abbrev pub IsVerdict : List Atom → Atom → Verdict → Type 0
+  IsVerdict before event Admitted = ViolatesNone text level trace (before ++ event ∷ [])
+  IsVerdict before event (Rejected k) = IsLeastViolated text level trace (before ++ event ∷ []) k
+
+  -- each event of a batch is judged with those admitted before it
+  abbrev pub AreJudged : List Atom → List Atom → List Verdict → Type 0
+  AreJudged before [] [] = Unit {0}
+  AreJudged before (event ∷ events) (verdict ∷ verdicts) =
+      IsVerdict before event verdict × AreJudged (before ++ if_admitted verdict event) events verdicts
+  AreJudged before _ _ = ⊥
+
 -- ---- proposals
 
 -- an atom of an entry that goes on with a group, before those of the entries behind it
@@ -76,18 +95,6 @@ module _ (text : Text) (level : List ℕ → ℕ) (depth : ℕ) (trace : Trace) 
 
   -- ---- legal cycles
 
-  -- an event is admitted where no denial is violated by it with the events before, else rejected by the least one that is
-  abbrev pub IsVerdict : List Atom → Atom → Verdict → Type 0
-  IsVerdict before event Admitted = ViolatesNone text level trace (before ++ event ∷ [])
-  IsVerdict before event (Rejected k) = IsLeastViolated text level trace (before ++ event ∷ []) k
-
-  -- each event of a batch is judged with those admitted before it
-  abbrev pub AreJudged : List Atom → List Atom → List Verdict → Type 0
-  AreJudged before [] [] = Unit {0}
-  AreJudged before (event ∷ events) (verdict ∷ verdicts) =
-      IsVerdict before event verdict × AreJudged (before ++ if_admitted verdict event) events verdicts
-  AreJudged before _ _ = ⊥
-
   -- each pick is a proposal of a pending goal without a pick, and with it no denial is violated by the events so far
   abbrev pub ArePicks : List GoalKey → List ℕ → List Atom → List Pick → Type 0
   ArePicks keys taken before [] = Unit {0}
@@ -95,16 +102,12 @@ module _ (text : Text) (level : List ℕ → ℕ) (depth : ℕ) (trace : Trace) 
       ((key : GoalKey) × IsPendingNumber keys pick.goal key × IsProposal key pick.group.atoms) × (Contains taken pick.goal → ⊥)
       × ViolatesNone text level trace (before ++ pick.group.atoms) × ArePicks keys (pick.goal ∷ taken) (before ++ pick.group.atoms) picks
 
-  -- an event that a batch may bring: ground, and declared as an event with its number of arguments
-  abbrev pub IsOutside : Atom → Type 0
-  IsOutside event = IsExternal text event × IsTrue (list_all is_ground event.args)
-
   -- the cycle may follow the trace
   pub record IsLegal (cycle : Cycle) : Type 0 where
     pub room : length trace.cycles < 1000000
     pub few : length cycle.events ≤ 1000
-    pub outside : AllByRecursion IsOutside cycle.events
-    pub judged : AreJudged [] cycle.events cycle.verdicts
+    pub outside : AllByRecursion (IsOutside text) cycle.events
+    pub judged : AreJudged text level trace [] cycle.events cycle.verdicts
     pub keys : List GoalKey
     pub goals : AreGoals text level trace (length trace.cycles) keys
     pub picks : ArePicks keys [] (admitted cycle.events cycle.verdicts) cycle.picks

@@ -2,10 +2,9 @@
 use Rattle.std.specs.Prelude.{◌≡◌, ◌≤◌, ℕ, true, false, IsTrue, List, [], ◌∷◌, map, Option, Some, None, if◌then◌else◌}
 use Rattle.std.specs.List.{AllByRecursion, filter, flat_map}
 use Rattle.lps_terms.specs.declared.item.Item.{Item}
-use Rattle.lps_terms.specs.declared.item.Item.TheVariants as i
 use Rattle.lps_terms.specs.declared.text.Text.{Text}
 use Rattle.lps_model.specs.declared.trace.Trace.{Trace}
-use Rattle.lps_model.specs.Order.{occurs}
+use Rattle.lps_model.specs.Order.{occurs, times_of}
 use Rattle.lps_model.specs.VariableLists.{item_vars}
 use Rattle.lps_derivation.specs.Ground.{is_ground}
 use Rattle.lps_meaning.specs.declared.goal.Closed.{Closed}
@@ -21,13 +20,6 @@ abbrev pub distinct : List ℕ → List ℕ → List ℕ
 distinct seen [] = []
 distinct seen (v ∷ vs) = if occurs v seen then distinct seen vs else v ∷ distinct (v ∷ seen) vs
 
--- the times of an item, also of a constraint
-abbrev pub item_times : Item → List ℕ
-item_times (i.At l time) = time.0 ∷ []
-item_times (i.Span a from to) = from.0 ∷ to.0 ∷ []
-item_times (i.Con con) = con.left.0 ∷ con.right.0 ∷ []
-item_times _ = []
-
 -- what stands in the antecedent and in some alternative, by first occurrence
 abbrev pub shared : (Item → List ℕ) → Rule → List ℕ
 shared parts rule = filter (λ v. occurs v (flat_map (flat_map parts) rule.alternatives)) (distinct [] (flat_map parts rule.antecedent))
@@ -38,11 +30,11 @@ shared_values = shared item_vars
 
 -- the shared times
 abbrev pub shared_times : Rule → List ℕ
-shared_times = shared item_times
+shared_times = shared times_of
 
 -- each value is a ground term
-abbrev pub AreGround : Values → Type 0
-AreGround s = (env v : ℕ) → IsTrue (is_ground (s env v))
+abbrev pub AreAllGround : Values → Type 0
+AreAllGround s = (env v : ℕ) → IsTrue (is_ground (s env v))
 
 -- these values and times are those of the key
 pub record AreOfKey (rule : Rule) (key : GoalKey) (s : Values) (t : Times) : Type 0 where
@@ -70,7 +62,7 @@ module _ (text : Text) (level : List ℕ → ℕ) (trace : Trace) where
   pub record HasInstance (rule : Rule) (key : GoalKey) : Type 0 where
     pub values : Values
     pub times : Times
-    pub ground : AreGround values
+    pub ground : AreAllGround values
     pub of_key : AreOfKey rule key values times
     pub end : Place
     pub walk : Walk text level trace [] values times key.time end (start text 0 rule.antecedent)
@@ -93,25 +85,25 @@ module _ (text : Text) (level : List ℕ → ℕ) (trace : Trace) where
     pub of_rule : numbered rule.alternatives alternative ≡ Some items
     pub values : Values
     pub times : Times
-    pub ground : AreGround values
+    pub ground : AreAllGround values
     pub of_key : AreOfKey rule key values times
     pub walk : Walk text level trace (shared_values rule) values times now end (start text key.time items)
 
   -- an alternative is true from the key's time up to now, at any nesting
-  pub record IsMet (key : GoalKey) (now : ℕ) : Type 0 where
+  pub record IsFulfilled (key : GoalKey) (now : ℕ) : Type 0 where
     pub end : Place
     pub reaches : Reaches key now end
     pub whole : end.left ≡ []
     pub limits : AreLimits reaches.times reaches.items end.links
 
   -- and by an instance that nests at most the depth
-  pub record IsMetWithin (depth : ℕ) (key : GoalKey) (now : ℕ) : Type 0 where
-    pub met : IsMet key now
+  pub record IsFulfilledWithin (depth : ℕ) (key : GoalKey) (now : ℕ) : Type 0 where
+    pub met : IsFulfilled key now
     pub within : IsWithin depth met.end
 
   -- rule number n is true by now: for each instance of its antecedent an alternative is true from its last time on
   abbrev pub IsRuleTrue : ℕ → ℕ → Type 0
-  IsRuleTrue now n = (key : GoalKey) → key.rule ≡ n → key.time ≤ now → IsGoal key → IsMet key now
+  IsRuleTrue now n = (key : GoalKey) → key.rule ≡ n → key.time ≤ now → IsGoal key → IsFulfilled key now
 
   -- ---- plans
 
@@ -144,13 +136,13 @@ module _ (text : Text) (level : List ℕ → ℕ) (trace : Trace) where
 
   -- the goal is pending now: it is not solved, and has a live plan
   abbrev pub IsPending : ℕ → GoalKey → ℕ → Type 0
-  IsPending depth key now = (IsMetWithin depth key now → ⊥) × HasLive depth key now
+  IsPending depth key now = (IsFulfilledWithin depth key now → ⊥) × HasLive depth key now
 
   -- the goal is closed so, each way by itself
   abbrev pub IsClosed : ℕ → GoalKey → ℕ → Closed → Type 0
-  IsClosed depth key now c.Solved = IsMetWithin depth key now
-  IsClosed depth key now c.Cut = (IsMetWithin depth key now → ⊥) × (HasLive depth key now → ⊥) × HasMetCut depth key now
-  IsClosed depth key now c.Failed = (IsMetWithin depth key now → ⊥) × (HasLive depth key now → ⊥) × (HasMetCut depth key now → ⊥)
+  IsClosed depth key now c.Solved = IsFulfilledWithin depth key now
+  IsClosed depth key now c.Cut = (IsFulfilledWithin depth key now → ⊥) × (HasLive depth key now → ⊥) × HasMetCut depth key now
+  IsClosed depth key now c.Failed = (IsFulfilledWithin depth key now → ⊥) × (HasLive depth key now → ⊥) × (HasMetCut depth key now → ⊥)
 
   -- the status of the goal: how it is closed, or nothing while it is pending
   abbrev pub HasStatus : ℕ → GoalKey → ℕ → Option Closed → Type 0

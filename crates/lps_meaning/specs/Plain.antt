@@ -68,17 +68,17 @@ module _ (text : Text) (level : List ℕ → ℕ) (depth : ℕ) (trace : Trace) 
       ⊎ ((r : Ranked) × (rest : List Pick) × IsGiven n taken events r × (picks ≡ pick_of n r ∷ rest) × Pass ns (n ∷ taken) (events ++ r.group) rest)
 
   -- passes one after the other: each but the last makes a pick, and the last makes none
-  pub data Passes (order : List ℕ) : List ℕ → List Atom → List Pick → Type 0 where
-    last : {taken : List ℕ} {events : List Atom} {all : List Pick} → Pass order taken events [] → all ≡ [] → Passes order taken events all
+  pub data AllPasses (order : List ℕ) : List ℕ → List Atom → List Pick → Type 0 where
+    last : {taken : List ℕ} {events : List Atom} {all : List Pick} → Pass order taken events [] → all ≡ [] → AllPasses order taken events all
     more : {taken : List ℕ} {events : List Atom} {all : List Pick} (pick : Pick) (picks rest : List Pick) → Pass order taken events (pick ∷ picks) →
-        Passes order (map (λ p. p.goal) (pick ∷ picks) ++ taken) (events ++ flat_map (λ p. p.group.atoms) (pick ∷ picks)) rest →
-        all ≡ (pick ∷ picks) ++ rest → Passes order taken events all
+        AllPasses order (map (λ p. p.goal) (pick ∷ picks) ++ taken) (events ++ flat_map (λ p. p.group.atoms) (pick ∷ picks)) rest →
+        all ≡ (pick ∷ picks) ++ rest → AllPasses order taken events all
 
 module _ (text : Text) (level : List ℕ → ℕ) (depth : ℕ) (prefer : Prefer) where
   -- a legal cycle whose picks are made by passes
   pub record IsPlain (trace : Trace) (cycle : Cycle) : Type 0 where
     pub legal : IsLegal text level depth trace cycle
-    pub passes : Passes text level depth trace legal.keys (order_of prefer (length legal.keys)) [] (admitted cycle.events cycle.verdicts) cycle.picks
+    pub passes : AllPasses text level depth trace legal.keys (order_of prefer (length legal.keys)) [] (admitted cycle.events cycle.verdicts) cycle.picks
 
   -- each cycle is plain after those before it
   abbrev pub ArePlain : Trace → List Cycle → Type 0

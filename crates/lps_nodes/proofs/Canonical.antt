@@ -16,7 +16,7 @@ use Rattle.lps_meaning.specs.declared.when.When.{When}
 use Rattle.lps_meaning.specs.declared.when.When.TheVariants.{Known, Unknown}
 use Rattle.lps_nodes.specs.Nodes.{IsResidual}
 use Rattle.lps_meaning.specs.Sequences.{Place, Values, Times}
-use Rattle.lps_meaning.specs.Goals.{AreGround}
+use Rattle.lps_meaning.specs.Goals.{AreAllGround}
 use Rattle.lps_nodes.specs.Shapes.{Sequence, Shape, put_when, put_shape, IsCanonical, is_numbered, unknowns, is_unknown, left_unknowns, shape_vars, shape_unknowns, untested}
 use Rattle.lps_meaning.proofs.Occurrences.{all_to, vars-Var}
 use Rattle.lps_nodes.proofs.OwnShapes.{own, own_time, own_shape}
@@ -194,7 +194,7 @@ of_untested g h = (
 )
 
 -- a place has one residual
-pub residual_unique : (seq : Sequence) (s : Values) (t : Times) → AreGround s → (place : Place) (n m : Node) →
+pub residual_unique : (seq : Sequence) (s : Values) (t : Times) → AreAllGround s → (place : Place) (n m : Node) →
     IsResidual seq s t place n → IsResidual seq s t place m → n.alternative ≡ m.alternative → n ≡ m
 residual_unique seq s t ground place n m one two alternative =
     let there = variants seq s t ground place one.whole two.whole one.general two.general in

@@ -12,7 +12,7 @@ use Rattle.lps_terms.specs.declared.text.Text.{Text}
 use Rattle.lps_terms.specs.declared.time_var.TimeVar.{TimeVar}
 use Rattle.lps_model.specs.declared.trace.Trace.{Trace}
 use Rattle.lps_model.specs.Order.{happens, are_grouped}
-use Rattle.lps_meaning.specs.Goals.{AreGround}
+use Rattle.lps_meaning.specs.Goals.{AreAllGround}
 use Rattle.lps_model.specs.Rules.{MacroClause, clauses_of, is_macro, kind_of, numbered}
 use Rattle.lps_meaning.specs.Sequences.{Entry, Link, Place, Values, Times, Walk, stop, pass, replace, entries, joins_to, is_call, passed, replaced, link_at}
 use Rattle.lps_nodes.specs.Shapes.{Sequence}
@@ -385,7 +385,7 @@ pub record IsColoured (text : Text) (given : List ℕ) (place : Place) : Type 0 
 pub record AreOrderly (text : Text) : Type 0 where
   pub each : (name : List ℕ) (number : ℕ) (clause : MacroClause) → numbered (clauses_of text name) number ≡ Some clause → AreFresh text (clause.begin ∷ []) None clause.items
 
-module _ (text : Text) (level : List ℕ → ℕ) (trace : Trace) (q : Sequence) (s : Values) (t : Times) (ground : AreGround s) (orderly : AreOrderly text) where
+module _ (text : Text) (level : List ℕ → ℕ) (trace : Trace) (q : Sequence) (s : Values) (t : Times) (ground : AreAllGround s) (orderly : AreOrderly text) where
   coloured_passed : (place : Place) (o : Entry) (rest : List Entry) → place.left ≡ o ∷ rest → IsColoured text q.given_times place → IsColoured text q.given_times (passed t place o rest)
   coloured_passed place o rest left h = record {
     colour = h.colour;

@@ -21,7 +21,7 @@ use Rattle.lps_meaning.specs.declared.node.LeftItem.{LeftItem}
 use Rattle.lps_meaning.specs.declared.node.LeftItem.TheVariants as l
 use Rattle.lps_meaning.specs.declared.when.When.TheVariants.{Known}
 use Rattle.lps_nodes.specs.Conditions.{IsLeftSmall, time_in}
-use Rattle.lps_meaning.specs.Goals.{AreGround}
+use Rattle.lps_meaning.specs.Goals.{AreAllGround}
 use Rattle.lps_meaning.specs.Items.{put_item, IsSmallItem}
 use Rattle.lps_nodes.specs.Laws.{IsOfText, IsWalked}
 use Rattle.lps_model.specs.Rules.{MacroClause, Rule, clauses_of, is_macro, kind_of, macro_clause_in, macro_clauses, numbered, rule_in, rules}
@@ -135,7 +135,7 @@ walk_then end (pass env nest joins item rest left no_call is_true small placed w
 walk_then end (replace e rest a from to number clause left item macro named values times small walk) more =
     replace e rest a from to number clause left item macro named values times small (walk_then end walk more)
 
-fresh_along : (text : Text) (q : Sequence) (s : Values) (t : Times) (ground : AreGround s) (level : List ℕ → ℕ) (trace : Trace) {now : ℕ} {end place : Place} →
+fresh_along : (text : Text) (q : Sequence) (s : Values) (t : Times) (ground : AreAllGround s) (level : List ℕ → ℕ) (trace : Trace) {now : ℕ} {end place : Place} →
     Walk text level trace q.given_values s t now end place → IsFresh text q s t ground place → IsFresh text q s t ground end
 fresh_along text q s t ground level trace stop h = h
 fresh_along text q s t ground level trace {place = place} (pass env nest joins item rest left no_call is_true small placed walk) h =
@@ -145,14 +145,14 @@ fresh_along text q s t ground level trace {place = place} (replace e rest a from
 
 -- ---- what is possible at a place is a walk there
 
-module _ (q : Sequence) (s : Values) (t : Times) (ground : AreGround s) (end : Place) (u : Values) (w : Whens) (possible : IsPossible q s t end u w) (formed : IsFormedPlace end) where
+module _ (q : Sequence) (s : Values) (t : Times) (ground : AreAllGround s) (end : Place) (u : Values) (w : Whens) (possible : IsPossible q s t end u w) (formed : IsFormedPlace end) where
   abbrev pub values : Values
   values env v = clean (u env v)
 
   abbrev pub times : Times
   times env v = time_in (λ k. 0) (w env v)
 
-  values_ground : AreGround values
+  values_ground : AreAllGround values
   values_ground env v = clean_ground (u env v)
 
   same_values : map (values 0) q.given_values ≡ map (s 0) q.given_values
@@ -231,7 +231,7 @@ module _ (q : Sequence) (s : Values) (t : Times) (ground : AreGround s) (end : P
 
 -- ---- steps
 
-module _ (text : Text) (formed : IsTrue (is_formed text)) (level : List ℕ → ℕ) (trace : Trace) (q : Sequence) (of_text : IsOfText text q) (s : Values) (t : Times) (ground : AreGround s)
+module _ (text : Text) (formed : IsTrue (is_formed text)) (level : List ℕ → ℕ) (trace : Trace) (q : Sequence) (of_text : IsOfText text q) (s : Values) (t : Times) (ground : AreAllGround s)
     (since now later : ℕ) (le : now ≤ later) (end : Place) (walk : Walk text level trace q.given_values s t now end (start text since q.items)) (g : Shape) (is : IsGeneral q s t end g)
     (next : Entry) (rest : List Entry) (left : end.left ≡ next ∷ rest) where
   here_formed : IsFormedPlace end
@@ -258,7 +258,7 @@ module _ (text : Text) (formed : IsTrue (is_formed text)) (level : List ℕ → 
       let whens : Times = times q s t ground end u1 w1 possible here_formed in
       let own = told_clean q s t ground end u1 w1 possible here_formed f c f_ground next.env next.nest next.item next_formed told in
       let item = item_moved (λ e. f) vals (λ e. c) whens next.env next.nest next.item (sym own) in
-      let grounds : AreGround vals = values_ground q s t ground end u1 w1 possible here_formed in (
+      let grounds : AreAllGround vals = values_ground q s t ground end u1 w1 possible here_formed in (
         record {
           values = vals;
           times = whens;
@@ -304,7 +304,7 @@ module _ (text : Text) (formed : IsTrue (is_formed text)) (level : List ℕ → 
       let possible : IsPossible q s t end nu nw = record { values = r.0.values; times = r.0.times; past = r.0.past; links = r.0.links.1; when_links = r.0.when_links.1 } in
       let vals : Values = values q s t ground end nu nw possible here_formed in
       let whens : Times = times q s t ground end nu nw possible here_formed in
-      let grounds : AreGround vals = values_ground q s t ground end nu nw possible here_formed in
+      let grounds : AreAllGround vals = values_ground q s t ground end nu nw possible here_formed in
       let link : Link = link_at end next a from.0 to.0 number clause in
       let link_formed : IsFormedAtom a × IsFormedAtom clause.head = (span_formed a from to (subst IsFormedItem item next_formed), (clause_of text formed a.name number clause named).0) in
       let fresh : IsFresh text q vals whens grounds end = record { first = here_fresh.first; left = here_fresh.left; past = here_fresh.past; links = here_fresh.links } in

@@ -16,7 +16,7 @@ use Rattle.lps_terms.specs.declared.time_var.TimeVar.{TimeVar}
 use Rattle.lps_terms.specs.Put.{after, put_atom}
 use Rattle.lps_model.specs.declared.trace.Trace.{Trace}
 use Rattle.lps_model.specs.Acceptance.{IsAccepted}
-use Rattle.lps_model.specs.Formed.{is_formed}
+use Rattle.lps_model.specs.Formed.{is_formed, is_formed_built, is_formed_expr, is_formed-Leaf, is_formed-Apply}
 use Rattle.lps_derivation.specs.Expressions.{expr_ind}
 use Rattle.lps_derivation.specs.Ground.{is_ground}
 use Rattle.lps_meaning.specs.declared.node.Left.{Left}
@@ -24,7 +24,7 @@ use Rattle.lps_meaning.specs.declared.node.LeftItem.{LeftItem}
 use Rattle.lps_meaning.specs.declared.node.LeftItem.TheVariants as l
 use Rattle.lps_meaning.specs.declared.when.When.{When}
 use Rattle.lps_meaning.specs.declared.when.When.TheVariants.{Known, Unknown}
-use Rattle.lps_nodes.specs.Alone.{Alone, stay, meet, enter, IsMetBy, IsToldItem, Standing, is_ground_built, is_ground_expr, is_ground_expr-Apply, is_ground_expr-Leaf}
+use Rattle.lps_nodes.specs.Alone.{Alone, stay, meet, enter, IsLeftTrue, IsToldItem, Stage}
 use Rattle.lps_nodes.specs.Conditions.{IsLeftPlaced, IsLeftSmall, goes_on, left_end, time_in}
 use Rattle.lps_meaning.specs.Items.{put_item, IsSmallItem}
 use Rattle.lps_nodes.specs.Laws.{IsOfText, IsWalked}
@@ -60,18 +60,18 @@ atom_stays a h = λ j. record { name = a.name; args = terms_stay a.args h j }
 lit_stays : (lit : Lit) → list_all is_ground lit.atom.args ≡ true → clean_lit lit ≡ lit
 lit_stays lit h = λ j. record { negated = lit.negated; atom = atom_stays lit.atom h j }
 
-expr_stays : (x : Expr) → is_ground_expr x ≡ true → clean_expr x ≡ x
-expr_stays = expr_ind (λ x. is_ground_expr x ≡ true → clean_expr x ≡ x)
-    (λ x h. clean_expr-Leaf x ∙ ap (λ y. e.Leaf y) (clean_stays x (sym (is_ground_expr-Leaf x) ∙ h)))
+expr_stays : (x : Expr) → is_formed_expr 0 x ≡ true → clean_expr x ≡ x
+expr_stays = expr_ind (λ x. is_formed_expr 0 x ≡ true → clean_expr x ≡ x)
+    (λ x h. clean_expr-Leaf x ∙ ap (λ y. e.Leaf y) (clean_stays x (sym (is_formed-Leaf 0 x) ∙ h)))
     (λ op x y one two h.
-    let parts = both (is_ground_expr x) (is_ground_expr y) (sym (is_ground_expr-Apply op x y) ∙ h) in
+    let parts = both (is_formed_expr 0 x) (is_formed_expr 0 y) (sym (is_formed-Apply 0 op x y) ∙ h) in
     clean_expr-Apply op x y ∙ (λ j. e.Apply op (one parts.0 j) (two parts.1 j)))
 
-built_stays : (x : Built) → is_ground_built x ≡ true → clean_built x ≡ x
+built_stays : (x : Built) → is_formed_built 0 x ≡ true → clean_built x ≡ x
 built_stays (b.Same x y) h = let parts = both (is_ground x) (is_ground y) h in λ j. b.Same (clean_stays x parts.0 j) (clean_stays y parts.1 j)
 built_stays (b.Differ x y) h = let parts = both (is_ground x) (is_ground y) h in λ j. b.Differ (clean_stays x parts.0 j) (clean_stays y parts.1 j)
-built_stays (b.Is x sum) h = let parts = both (is_ground x) (is_ground_expr sum) h in λ j. b.Is (clean_stays x parts.0 j) (expr_stays sum parts.1 j)
-built_stays (b.Compare rel x y) h = let parts = both (is_ground_expr x) (is_ground_expr y) h in λ j. b.Compare rel (expr_stays x parts.0 j) (expr_stays y parts.1 j)
+built_stays (b.Is x sum) h = let parts = both (is_ground x) (is_formed_expr 0 sum) h in λ j. b.Is (clean_stays x parts.0 j) (expr_stays sum parts.1 j)
+built_stays (b.Compare rel x y) h = let parts = both (is_formed_expr 0 x) (is_formed_expr 0 y) h in λ j. b.Compare rel (expr_stays x parts.0 j) (expr_stays y parts.1 j)
 
 -- times as numbers, where all are known
 abbrev numbers : (ℕ → When) → ℕ → ℕ
@@ -157,7 +157,7 @@ head_left d (left ∷ rest) = left
 
 -- what an item met says of the entry
 abbrev AreMet : Text → (List ℕ → ℕ) → Trace → ℕ → List Left → Type 0
-AreMet text level trace now = AllByRecursion (λ left. IsMetBy text level trace now left.item)
+AreMet text level trace now = AllByRecursion (λ left. IsLeftTrue text level trace now left.item)
 
 met_no_call : (text : Text) (level : List ℕ → ℕ) (trace : Trace) (now : ℕ) (f : ℕ → Term) (c : ℕ → ℕ) (nest : ℕ) (item : Item) → AreMet text level trace now (left_of f (λ v. Known (c v)) nest item) → is_call text item ≡ false
 met_no_call text level trace now f c nest (i.At lit time) h = refl
@@ -364,7 +364,7 @@ module _ (text : Text) (accepted : IsAccepted text) (formed : IsTrue (is_formed 
 
     -- ---- an item is met
 
-    module _ (met : Left) (h : Shape) (told : IsToldItem met.item) (met_by : IsMetBy text level trace later met.item) (small : IsLeftSmall met.item)
+    module _ (met : Left) (h : Shape) (told : IsToldItem met.item) (met_by : IsLeftTrue text level trace later met.item) (small : IsLeftSmall met.item)
         (placed : IsLeftPlaced text (λ k. 0) before (goes_on text last first.item) met.item) (step : PassesTo (met ∷ []) g h) where
       abbrev u1 : Values
       u1 env = after step.v (is.values env)
@@ -472,7 +472,7 @@ module _ (text : Text) (accepted : IsAccepted text) (formed : IsTrue (is_formed 
         let beyond : Place = replaced text place (link_at place next call.0 call.1.0 call.2.0 number clause) o.rest in
         (beyond, through s t place beyond g h at walked, let same = o.same in omega (arith, same, earlier))
 
-  pub alone_walked : (s : Values) (t : Times) {end x : Standing} → Alone text level trace later end x → (here : Place) → IsAt s t here x.shape → here.before ≤ x.before → IsLastTold x.last →
+  pub alone_walked : (s : Values) (t : Times) {end x : Stage} → Alone text level trace later end x → (here : Place) → IsAt s t here x.shape → here.before ≤ x.before → IsLastTold x.last →
       (beyond : Place) × IsAt s t beyond end.shape
   alone_walked s t stay here walked le told_last = (here, walked)
   alone_walked s t {x = x} (meet first behind met h is_first told met_by small placed step more) here walked le told_last =

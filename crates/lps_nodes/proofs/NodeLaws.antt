@@ -18,7 +18,7 @@ use Rattle.lps_meaning.specs.declared.node.LeftItem.TheVariants as l
 use Rattle.lps_meaning.specs.declared.when.When.{When}
 use Rattle.lps_meaning.specs.declared.when.When.TheVariants.{Known, Unknown}
 use Rattle.lps_nodes.specs.Conditions.{time_in, AreLeftInOrder, IsLeftLimit, IsLeftSmall, CanComeTrue, ShowsGroup, ShowGroups}
-use Rattle.lps_meaning.specs.Goals.{AreGround, CanGoOn}
+use Rattle.lps_meaning.specs.Goals.{AreAllGround, CanGoOn}
 use Rattle.lps_meaning.specs.Items.{put_item, IsSmallItem}
 use Rattle.lps_model.specs.Rules.{kind_of}
 use Rattle.lps_meaning.specs.Sequences.{Entry, Link, Place, Values, Times, Walk, start, AreInOrder, AreLimits, IsLimit, Relates, IsAhead, IsPlaced, AreAlike, IsSmallSoFar, HasSameValues, HasSameTimes, is_step}
@@ -254,7 +254,7 @@ marked_behind text e (o ∷ es) h = (
 
 -- ---- from plans to conditions, and back
 
-module _ (text : Text) (level : List ℕ → ℕ) (trace : Trace) (q : Sequence) (s : Values) (t : Times) (ground : AreGround s) (since now : ℕ) (low : since ≤ now)
+module _ (text : Text) (level : List ℕ → ℕ) (trace : Trace) (q : Sequence) (s : Values) (t : Times) (ground : AreAllGround s) (since now : ℕ) (low : since ≤ now)
     (end : Place) (walk : Walk text level trace q.given_values s t now end (start text since q.items)) where
   abbrev links : AllByRecursion (HasSameValues s) end.links × AllByRecursion (HasSameTimes t) end.links
   links = linked text level trace q.given_values s t walk tt tt

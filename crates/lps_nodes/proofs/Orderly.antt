@@ -13,7 +13,7 @@ use Rattle.lps_terms.specs.Names.{name_eq}
 use Rattle.lps_model.specs.Acceptance.{IsAccepted}
 use Rattle.lps_model.specs.Order.{first_line, follow, has_bad_head_times, has_step, is_mixed_somewhere, is_ordered, is_ordered_after, is_out_of_order, last_end, occurs, refusal_at, steps, times_in, times_of}
 use Rattle.lps_model.proofs.Stated.{no_order_refused}
-use Rattle.lps_meaning.specs.Goals.{distinct, item_times, shared_times}
+use Rattle.lps_meaning.specs.Goals.{distinct, shared_times}
 use Rattle.lps_model.specs.Rules.{MacroClause, Rule, clauses_of, kind_of, macro_clause_in, macro_clauses, numbered, rule_in, rules}
 use Rattle.lps_meaning.specs.Frames.{first_begin}
 use Rattle.lps_meaning.specs.Sequences.{entries, start}
@@ -182,14 +182,6 @@ module _ (text : Text) where
 
 -- ---- what an alternative shares stands in its antecedent
 
-same_times : (items : List Item) → flat_map item_times items ≡ flat_map times_of items
-same_times [] = refl
-same_times (i.At l time ∷ items) = ap (λ vs. time.0 ∷ vs) (same_times items)
-same_times (i.Span a from to ∷ items) = ap (λ vs. from.0 ∷ to.0 ∷ vs) (same_times items)
-same_times (i.Con con ∷ items) = ap (λ vs. con.left.0 ∷ con.right.0 ∷ vs) (same_times items)
-same_times (i.Bare l ∷ items) = same_times items
-same_times (i.Built c ∷ items) = same_times items
-
 all_distinct : (P : ℕ → Type 0) (vs seen : List ℕ) → AllByRecursion P vs → AllByRecursion P (distinct seen vs)
 all_distinct P [] seen h = tt
 all_distinct P (v ∷ vs) seen h = by (occurs v seen) (all_distinct P vs seen h.1) (all_distinct P vs (v ∷ seen) h.1)
@@ -200,5 +192,5 @@ all_distinct P (v ∷ vs) seen h = by (occurs v seen) (all_distinct P vs seen h.
 
 pub shared_none : (rule : Rule) (v : ℕ) → IsNone v (times_in rule.antecedent) → IsNone v (shared_times rule)
 shared_none rule v h =
-    all_filter (λ y. v ≡ y → ⊥) _ (distinct [] (flat_map item_times rule.antecedent))
-    (all_distinct (λ y. v ≡ y → ⊥) (flat_map item_times rule.antecedent) [] (subst (IsNone v) (sym (same_times rule.antecedent)) h))
+    all_filter (λ y. v ≡ y → ⊥) _ (distinct [] (flat_map times_of rule.antecedent))
+    (all_distinct (λ y. v ≡ y → ⊥) (flat_map times_of rule.antecedent) [] h)

@@ -16,7 +16,7 @@ use Rattle.lps_meaning.specs.declared.node.Left.{Left}
 use Rattle.lps_meaning.specs.declared.node.LeftItem.TheVariants as l
 use Rattle.lps_meaning.specs.declared.when.When.{When}
 use Rattle.lps_meaning.specs.declared.when.When.TheVariants.{Known, Unknown}
-use Rattle.lps_meaning.specs.Goals.{AreGround}
+use Rattle.lps_meaning.specs.Goals.{AreAllGround}
 use Rattle.lps_model.specs.Rules.{MacroClause}
 use Rattle.lps_meaning.specs.Sequences.{Entry, Place, Values, Times, HasSameValues, HasSameTimes, Walk, stop, pass, replace, passed, replaced, link_at, entries, start}
 use Rattle.lps_nodes.specs.Shapes.{Sequence, Shape, Whens, put_when, put_left, put_shape, left_of, left_at, con_of, HasSameWhens, all_known, shape_of, IsPossible, IsGeneral}
@@ -40,7 +40,7 @@ pass_item g us ss ws zs nest (i.Bare lit) lefts is fixed v0 x0 k0 e = pass_one g
 pass_item g us ss ws zs nest (i.Built built) lefts is fixed v0 x0 k0 e = pass_one g _ _ lefts is (λ r z. ap (first_item (l.Built built)) (fixed r z)) v0 x0 k0 e
 pass_item g us ss ws zs nest (i.Span a from to) lefts is fixed v0 x0 k0 e = pass_one g _ _ lefts is (λ r z. ap (first_item (l.Span a (Known 0) (Known 0))) (fixed r z)) v0 x0 k0 e
 
-module _ (text : Text) (seq : Sequence) (s : Values) (t : Times) (ground : AreGround s) where
+module _ (text : Text) (seq : Sequence) (s : Values) (t : Times) (ground : AreAllGround s) where
   -- the walk's own values and times are possible
   own_possible : (place : Place) → AllByRecursion (HasSameValues s) place.links → AllByRecursion (HasSameTimes t) place.links → IsPossible seq s t place s (all_known t)
   own_possible place vals whens = record {

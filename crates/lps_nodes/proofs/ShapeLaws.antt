@@ -21,7 +21,7 @@ use Rattle.lps_meaning.specs.declared.node.LeftItem.{LeftItem}
 use Rattle.lps_meaning.specs.declared.node.LeftItem.TheVariants as l
 use Rattle.lps_meaning.specs.declared.when.When.{When}
 use Rattle.lps_meaning.specs.declared.when.When.TheVariants.{Known, Unknown}
-use Rattle.lps_meaning.specs.Goals.{AreGround}
+use Rattle.lps_meaning.specs.Goals.{AreAllGround}
 use Rattle.lps_model.specs.Rules.{MacroClause}
 use Rattle.lps_meaning.specs.Sequences.{Entry, Link, Place, Values, Times, HasSameValues, Walk, stop, pass, replace, passed, replaced, link_at, entries, start}
 use Rattle.lps_nodes.specs.Shapes.{Sequence, Shape, Whens, put_when, put_left_item, put_left, put_left_con, put_shape, left_of, con_of, limits_of, HasSameWhens, all_known, shape_of, IsPossible, IsGeneral}
@@ -159,7 +159,7 @@ shape_put v u x w g = λ i. record {
   limits = cons_put x w g.limits i;
 }
 
-module _ (text : Text) (seq : Sequence) (s : Values) (t : Times) (ground : AreGround s) where
+module _ (text : Text) (seq : Sequence) (s : Values) (t : Times) (ground : AreAllGround s) where
   abbrev shape_at : Place → Values → Whens → Shape
   shape_at place u w = shape_of seq place u w
 
@@ -490,7 +490,7 @@ module _ (text : Text) (seq : Sequence) (s : Values) (t : Times) (ground : AreGr
         (unfold_general trace place o rest left a from to item number clause fresh g chain.0 is chain.1) chain.2
 
 -- two most general shapes of a place are instances of each other
-pub variants : (seq : Sequence) (s : Values) (t : Times) → AreGround s → (place : Place) (g h : Shape) → IsGeneral seq s t place g → IsGeneral seq s t place h →
+pub variants : (seq : Sequence) (s : Values) (t : Times) → AreAllGround s → (place : Place) (g h : Shape) → IsGeneral seq s t place g → IsGeneral seq s t place h →
     (v : ℕ → Term) × (x : ℕ → When) × (h ≡ put_shape v x g)
 variants seq s t ground place g h is other =
     let r = is.general other.values other.whens other.possible in (r.0, r.1, other.own ∙ r.2)

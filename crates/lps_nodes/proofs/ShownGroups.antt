@@ -21,7 +21,7 @@ use Rattle.lps_meaning.specs.declared.node.LeftItem.TheVariants as l
 use Rattle.lps_meaning.specs.declared.when.When.{When}
 use Rattle.lps_meaning.specs.declared.when.When.TheVariants.{Known, Unknown}
 use Rattle.lps_nodes.specs.Conditions.{CanComeTrue, goes_on, is_same_time, last_or, ShowGroups, ShowsGroup}
-use Rattle.lps_meaning.specs.Goals.{AreGround, CanGoOn, shared_times}
+use Rattle.lps_meaning.specs.Goals.{AreAllGround, CanGoOn, shared_times}
 use Rattle.lps_nodes.specs.Laws.{IsOfText}
 use Rattle.lps_model.specs.Rules.{kind_of, rules}
 use Rattle.lps_meaning.specs.Sequences.{Entry, Link, Place, Values, Times, Walk, start, IsAhead, is_call, is_step}
@@ -81,7 +81,7 @@ goes_with text (Some (l.At lit time)) a from to e = absurd (false_true e)
 goes_with text (Some (l.Bare lit)) a from to e = absurd (false_true e)
 goes_with text (Some (l.Built built)) a from to e = absurd (false_true e)
 
-module _ (text : Text) (q : Sequence) (s : Values) (t : Times) (ground : AreGround s) (end : Place) (g : Shape) (is : IsGeneral q s t end g) (paint : IsColoured text q.given_times end) where
+module _ (text : Text) (q : Sequence) (s : Values) (t : Times) (ground : AreAllGround s) (end : Place) (g : Shape) (is : IsGeneral q s t end g) (paint : IsColoured text q.given_times end) where
   abbrev u : Values
   u = is.values
 
@@ -265,7 +265,7 @@ grouped_spans text (i.Bare lit) y e = absurd (false_true e)
 grouped_spans text (i.Built c) y e = absurd (false_true e)
 grouped_spans text (i.Con con) y e = absurd (false_true e)
 
-module _ (text : Text) (accepted : IsAccepted text) (level : List ℕ → ℕ) (trace : Trace) (q : Sequence) (of_text : IsOfText text q) (s : Values) (t : Times) (ground : AreGround s) (since now : ℕ)
+module _ (text : Text) (accepted : IsAccepted text) (level : List ℕ → ℕ) (trace : Trace) (q : Sequence) (of_text : IsOfText text q) (s : Values) (t : Times) (ground : AreAllGround s) (since now : ℕ)
     (low : since ≤ now) (end : Place) (walk : Walk text level trace q.given_values s t now end (start text since q.items)) where
   given_fresh : AreFresh text q.given_times None q.items
   given_fresh = by of_text.2

@@ -13,13 +13,13 @@ use Rattle.lps_terms.specs.declared.text.Text.{Text}
 use Rattle.lps_terms.specs.declared.time_var.TimeVar.{TimeVar}
 use Rattle.lps_model.specs.declared.trace.Trace.{Trace}
 use Rattle.lps_model.specs.Acceptance.{IsAccepted}
-use Rattle.lps_model.specs.Order.{occurs}
+use Rattle.lps_model.specs.Order.{occurs, times_of}
 use Rattle.lps_model.proofs.Elements.{first_is_contained}
 use Rattle.lps_meaning.specs.declared.node.Left.{Left}
 use Rattle.lps_meaning.specs.declared.node.LeftCon.{LeftCon}
 use Rattle.lps_meaning.specs.declared.when.When.{When}
 use Rattle.lps_meaning.specs.declared.when.When.TheVariants.{Known, Unknown}
-use Rattle.lps_meaning.specs.Goals.{AreGround, distinct, item_times, shared_times}
+use Rattle.lps_meaning.specs.Goals.{AreAllGround, distinct, shared_times}
 use Rattle.lps_nodes.specs.Integers.{AreTimesLeft}
 use Rattle.lps_nodes.specs.Laws.{IsOfText}
 use Rattle.lps_model.specs.Rules.{MacroClause, Rule, rules}
@@ -247,7 +247,7 @@ occurs_behind v (x ∷ xs) ys e = or_right (x == v) (occurs v (xs ++ ys)) (occur
 occurs_here : (v : ℕ) (x : ℕ) (xs : List ℕ) → x ≡ v → occurs v (x ∷ xs) ≡ true
 occurs_here v x xs e = or_left (x == v) (occurs v xs) (ap (λ n. x == n) (sym e) ∙ same_self x)
 
-time_occurs : (v : ℕ) (item : Item) → IsTimeOf v item → occurs v (item_times item) ≡ true
+time_occurs : (v : ℕ) (item : Item) → IsTimeOf v item → occurs v (times_of item) ≡ true
 time_occurs v (i.At lit at) h = occurs_here v at.0 [] h
 time_occurs v (i.Span a from to) (inl h) = occurs_here v from.0 (to.0 ∷ []) h
 time_occurs v (i.Span a from to) (inr h) = or_right (from.0 == v) (occurs v (to.0 ∷ [])) (occurs_here v to.0 [] h)
@@ -255,18 +255,18 @@ time_occurs v (i.Bare lit) h = absurd h
 time_occurs v (i.Built built) h = absurd h
 time_occurs v (i.Con con) h = absurd h
 
-stepped_occurs : (v : ℕ) (items : List Item) → IsStepped v items → occurs v (flat_map item_times items) ≡ true
+stepped_occurs : (v : ℕ) (items : List Item) → IsStepped v items → occurs v (flat_map times_of items) ≡ true
 stepped_occurs v [] h = absurd h
-stepped_occurs v (item ∷ items) (inl h) = occurs_front v (item_times item) (flat_map item_times items) (time_occurs v item h)
-stepped_occurs v (item ∷ items) (inr h) = occurs_behind v (item_times item) (flat_map item_times items) (stepped_occurs v items h)
+stepped_occurs v (item ∷ items) (inl h) = occurs_front v (times_of item) (flat_map times_of items) (time_occurs v item h)
+stepped_occurs v (item ∷ items) (inr h) = occurs_behind v (times_of item) (flat_map times_of items) (stepped_occurs v items h)
 
 -- the times of constraints occur among the times of items
-cons_occur : (whole : List ℕ) (items : List Item) → ((v : ℕ) → occurs v (flat_map item_times items) ≡ true → occurs v whole ≡ true) → AllByRecursion (IsConOf (λ v. occurs v whole ≡ true)) items
+cons_occur : (whole : List ℕ) (items : List Item) → ((v : ℕ) → occurs v (flat_map times_of items) ≡ true → occurs v whole ≡ true) → AllByRecursion (IsConOf (λ v. occurs v whole ≡ true)) items
 cons_occur whole [] sub = tt
 cons_occur whole (item ∷ items) sub =
-    (one item (λ v e. sub v (occurs_front v (item_times item) (flat_map item_times items) e)), cons_occur whole items (λ v e. sub v (occurs_behind v (item_times item) (flat_map item_times items) e)))
+    (one item (λ v e. sub v (occurs_front v (times_of item) (flat_map times_of items) e)), cons_occur whole items (λ v e. sub v (occurs_behind v (times_of item) (flat_map times_of items) e)))
   where
-    one : (it : Item) → ((v : ℕ) → occurs v (item_times it) ≡ true → occurs v whole ≡ true) → IsConOf (λ v. occurs v whole ≡ true) it
+    one : (it : Item) → ((v : ℕ) → occurs v (times_of it) ≡ true → occurs v whole ≡ true) → IsConOf (λ v. occurs v whole ≡ true) it
     one (i.Con con) h =
         (h con.left.0 (occurs_here con.left.0 con.left.0 (con.right.0 ∷ []) refl), h con.right.0 (or_right (con.left.0 == con.right.0) (occurs con.right.0 (con.right.0 ∷ [])) (occurs_here con.right.0 con.right.0 [] refl)))
     one (i.At lit at) h = tt
@@ -274,12 +274,12 @@ cons_occur whole (item ∷ items) sub =
     one (i.Built built) h = tt
     one (i.Span a from to) h = tt
 
-alternatives_occur : (whole : List ℕ) (alternatives : List (List Item)) → ((v : ℕ) → occurs v (flat_map (flat_map item_times) alternatives) ≡ true → occurs v whole ≡ true) →
+alternatives_occur : (whole : List ℕ) (alternatives : List (List Item)) → ((v : ℕ) → occurs v (flat_map (flat_map times_of) alternatives) ≡ true → occurs v whole ≡ true) →
     AllByRecursion (λ items. AllByRecursion (IsConOf (λ v. occurs v whole ≡ true)) items) alternatives
 alternatives_occur whole [] sub = tt
 alternatives_occur whole (items ∷ alternatives) sub = (
-  cons_occur whole items (λ v e. sub v (occurs_front v (flat_map item_times items) (flat_map (flat_map item_times) alternatives) e)),
-  alternatives_occur whole alternatives (λ v e. sub v (occurs_behind v (flat_map item_times items) (flat_map (flat_map item_times) alternatives) e)),
+  cons_occur whole items (λ v e. sub v (occurs_front v (flat_map times_of items) (flat_map (flat_map times_of) alternatives) e)),
+  alternatives_occur whole alternatives (λ v e. sub v (occurs_behind v (flat_map times_of items) (flat_map (flat_map times_of) alternatives) e)),
 )
 
 occurs_filter : (v : ℕ) (test : ℕ → Bool) (xs : List ℕ) → test v ≡ true → occurs v xs ≡ true → occurs v (filter test xs) ≡ true
@@ -303,10 +303,10 @@ occurs_distinct v (x ∷ xs) seen e new = by (λ h. occurs_distinct v xs seen h 
     by same more false was true at = or_left (x == v) (occurs v (distinct (x ∷ seen) xs)) at
     by same more false was false at = or_right (x == v) (occurs v (distinct (x ∷ seen) xs)) (more (sym (ap (λ b. b || occurs v xs) at) ∙ e) (ap (λ b. b || occurs v seen) at ∙ new))
 
-shared_occurs : (rule : Rule) (v : ℕ) → IsStepped v rule.antecedent → occurs v (flat_map (flat_map item_times) rule.alternatives) ≡ true → occurs v (shared_times rule) ≡ true
+shared_occurs : (rule : Rule) (v : ℕ) → IsStepped v rule.antecedent → occurs v (flat_map (flat_map times_of) rule.alternatives) ≡ true → occurs v (shared_times rule) ≡ true
 shared_occurs rule v h e =
-    occurs_filter v (λ v. occurs v (flat_map (flat_map item_times) rule.alternatives)) (distinct [] (flat_map item_times rule.antecedent)) e
-    (occurs_distinct v (flat_map item_times rule.antecedent) [] (stepped_occurs v rule.antecedent h) refl)
+    occurs_filter v (λ v. occurs v (flat_map (flat_map times_of) rule.alternatives)) (distinct [] (flat_map times_of rule.antecedent)) e
+    (occurs_distinct v (flat_map times_of rule.antecedent) [] (stepped_occurs v rule.antecedent h) refl)
 
 abbrev when_or : When → List When → When
 when_or d [] = d
@@ -345,7 +345,7 @@ module _ (text : Text) (accepted : IsAccepted text) (z : ℕ → When) (c : ℕ 
 
   of_alternative : (rule : Rule) → IsSteppedRule rule → (items : List Item) → Contains rule.alternatives items → StartsCovered (alternative_of rule items)
   of_alternative rule h items among given =
-      let whole = flat_map (flat_map item_times) rule.alternatives in
+      let whole = flat_map (flat_map times_of) rule.alternatives in
       con_two (λ v. IsStepped v rule.antecedent ⊎ IsStepped v items) (λ v. occurs v whole ≡ true) (IsGivenOrStepped items)
       (λ v st e. elim st [ inl before ↦ inl (given_known z c (shared_times rule) given v (shared_occurs rule v before e)) | inr here ↦ inr here ]) items
       (of_element (HaveStepsAfter rule.antecedent) rule.alternatives items h.1 among)
@@ -364,7 +364,7 @@ module _ (text : Text) (accepted : IsAccepted text) (z : ℕ → When) (c : ℕ 
           (con_to (λ v. IsStepped v of_text.0.antecedent) (IsGivenOrStepped of_text.0.antecedent) (λ v h. inr h)) of_text.0.antecedent of_rule.0)
       by (inr is) = subst StartsCovered (sym is.2) (of_alternative of_text.0 of_rule is.0 is.1)
 
-pub times_left : (text : Text) → IsAccepted text → (level : List ℕ → ℕ) (trace : Trace) (q : Sequence) → IsOfText text q → (s : Values) (t : Times) → AreGround s → (since now : ℕ) (end : Place) →
+pub times_left : (text : Text) → IsAccepted text → (level : List ℕ → ℕ) (trace : Trace) (q : Sequence) → IsOfText text q → (s : Values) (t : Times) → AreAllGround s → (since now : ℕ) (end : Place) →
     Walk text level trace q.given_values s t now end (start text since q.items) → (g : Shape) → IsGeneral q s t end g → AreTimesLeft g
 times_left text accepted level trace q of_text s t ground since now end walk g is =
     let u = is.values in

@@ -1,60 +1,31 @@
 -- Steps made at one time on what is left of a sequence alone, with no walk at hand.
-use Rattle.std.specs.Prelude.{◌≡◌, ◌≤◌, ◌&&◌, ℕ, Bool, true, false, IsTrue, List, [], ◌∷◌, Option, Some, None, Contains}
+use Rattle.std.specs.Prelude.{◌≡◌, ◌≤◌, ℕ, true, false, IsTrue, List, [], ◌∷◌, Option, Some, None, Contains}
 use Rattle.std.specs.List.{list_all}
-use Rattle.std.proofs.Common.{◌∙◌, sym, ap}
 use Rattle.lps_terms.specs.declared.atom.Atom.{Atom}
 use Rattle.lps_terms.specs.declared.built.Built.{Built}
-use Rattle.lps_terms.specs.declared.built.Built.TheVariants as b
-use Rattle.lps_terms.specs.declared.expr.Expr.{Expr}
-use Rattle.lps_terms.specs.declared.expr.Expr.TheVariants as e
-use Rattle.lps_terms.specs.declared.expr.Expr.TheOpen.{Expr-F}
-use Rattle.lps_terms.specs.declared.expr.Expr.TheFolds.{fold-Expr, fold-roll-Expr}
-use Rattle.lps_terms.specs.declared.op.Op.{Op}
-use Rattle.lps_terms.specs.declared.term.Term.{Term}
 use Rattle.lps_terms.specs.declared.text.Text.{Text}
 use Rattle.lps_values.specs.Truth.{is_true}
 use Rattle.lps_model.specs.declared.trace.Trace.{Trace}
 use Rattle.lps_model.specs.Trace.{events_at}
+use Rattle.lps_model.specs.Formed.{is_formed_built}
 use Rattle.lps_derivation.specs.Ground.{is_ground}
 use Rattle.lps_meaning.specs.declared.node.Left.{Left}
 use Rattle.lps_meaning.specs.declared.node.LeftItem.{LeftItem}
 use Rattle.lps_meaning.specs.declared.node.LeftItem.TheVariants as l
 use Rattle.lps_meaning.specs.declared.when.When.{When}
 use Rattle.lps_meaning.specs.declared.when.When.TheVariants.{Known, Unknown}
-use Rattle.lps_nodes.specs.Conditions.{IsLeftPlaced, IsLeftSmall, goes_on, left_end}
+use Rattle.lps_nodes.specs.Conditions.{IsLeftPlaced, IsLeftSmall, goes_on, left_end, time_in}
 use Rattle.lps_meaning.specs.Holds.{IsTrueLit}
 use Rattle.lps_model.specs.Rules.{MacroClause, clauses_of, is_macro, kind_of, numbered}
 use Rattle.lps_nodes.specs.Shapes.{Shape}
 use Rattle.lps_nodes.specs.Steps.{PassesTo, UnfoldsTo}
-
--- ---- ground items
-
-abbrev pub ground_expr_step : Expr-F Bool → Bool
-ground_expr_step (Expr-F.Leaf x) = is_ground x
-ground_expr_step (Expr-F.Apply op x y) = x && y
-
--- each leaf of the expression is ground
-abbrev pub is_ground_expr : Expr → Bool
-is_ground_expr = fold-Expr Bool ground_expr_step
-
-pub is_ground_expr-Leaf : (x : Term) → is_ground_expr (e.Leaf x) ≡ is_ground x
-is_ground_expr-Leaf x = ap is_ground_expr (sym (e.rolls-Leaf x)) ∙ fold-roll-Expr Bool ground_expr_step _
-
-pub is_ground_expr-Apply : (op : Op) (x y : Expr) → is_ground_expr (e.Apply op x y) ≡ (is_ground_expr x && is_ground_expr y)
-is_ground_expr-Apply op x y = ap is_ground_expr (sym (e.rolls-Apply op x y)) ∙ fold-roll-Expr Bool ground_expr_step _
-
-abbrev pub is_ground_built : Built → Bool
-is_ground_built (b.Same x y) = is_ground x && is_ground y
-is_ground_built (b.Differ x y) = is_ground x && is_ground y
-is_ground_built (b.Is x sum) = is_ground x && is_ground_expr sum
-is_ground_built (b.Compare rel x y) = is_ground_expr x && is_ground_expr y
 
 -- the terms of the item are ground, and its times are known
 abbrev pub IsToldItem : LeftItem → Type 0
 IsToldItem (l.At lit (Known n)) = IsTrue (list_all is_ground lit.atom.args)
 IsToldItem (l.At lit (Unknown k)) = ⊥
 IsToldItem (l.Bare lit) = IsTrue (list_all is_ground lit.atom.args)
-IsToldItem (l.Built built) = IsTrue (is_ground_built built)
+IsToldItem (l.Built built) = IsTrue (is_formed_built 0 built)
 IsToldItem (l.Span a (Known m) (Known n)) = IsTrue (list_all is_ground a.args)
 IsToldItem (l.Span a (Known m) (Unknown k)) = ⊥
 IsToldItem (l.Span a (Unknown k) to) = ⊥
@@ -62,31 +33,26 @@ IsToldItem (l.Span a (Unknown k) to) = ⊥
 -- ---- steps
 
 -- where steps on a shape alone stand: no step ended after `before`, and this item, if there is one, was met last at this time
-pub record Standing : Type 0 where
+pub record Stage : Type 0 where
   pub before : ℕ
   pub last : Option LeftItem
   pub shape : Shape
 
--- a known time as a number
-abbrev pub known : When → ℕ
-known (Known n) = n
-known (Unknown k) = 0
-
 module _ (text : Text) (level : List ℕ → ℕ) (trace : Trace) (now : ℕ) where
   -- an item, which is no macro call, is true by now
-  abbrev pub IsMetBy : LeftItem → Type 0
-  IsMetBy (l.At lit time) = (known time ≤ now) × IsTrueLit text level trace (known time) lit
-  IsMetBy (l.Bare lit) = IsTrueLit text level trace 0 lit
-  IsMetBy (l.Built built) = IsTrue (is_true built)
-  IsMetBy (l.Span a from to) = (is_macro (kind_of text a.name) ≡ false) × (known to ≤ now) × Contains (events_at trace (known to)) a
+  abbrev pub IsLeftTrue : LeftItem → Type 0
+  IsLeftTrue (l.At lit time) = (time_in (λ k. 0) time ≤ now) × IsTrueLit text level trace (time_in (λ k. 0) time) lit
+  IsLeftTrue (l.Bare lit) = IsTrueLit text level trace 0 lit
+  IsLeftTrue (l.Built built) = IsTrue (is_true built)
+  IsLeftTrue (l.Span a from to) = (is_macro (kind_of text a.name) ≡ false) × (time_in (λ k. 0) to ≤ now) × Contains (events_at trace (time_in (λ k. 0) to)) a
 
   -- Steps from a shape on: an item is met, which joins the group of the one met last where the item left, before it is met, has the same
   -- two times; or a body stands in the place of a call.
-  pub data Alone (end : Standing) : Standing → Type 0 where
+  pub data Alone (end : Stage) : Stage → Type 0 where
     stay : Alone end end
-    meet : {x : Standing} (first : Left) (behind : List Left) (met : Left) (h : Shape) → x.shape.rest ≡ first ∷ behind → IsToldItem met.item → IsMetBy met.item → IsLeftSmall met.item →
+    meet : {x : Stage} (first : Left) (behind : List Left) (met : Left) (h : Shape) → x.shape.rest ≡ first ∷ behind → IsToldItem met.item → IsLeftTrue met.item → IsLeftSmall met.item →
         IsLeftPlaced text (λ k. 0) x.before (goes_on text x.last first.item) met.item → PassesTo (met ∷ []) x.shape h →
         Alone end (record { before = left_end (λ k. 0) x.before met.item; last = Some met.item; shape = h }) → Alone end x
-    enter : {x : Standing} (first : Left) (behind : List Left) (a : Atom) (from to : When) (number : ℕ) (clause : MacroClause) (h : Shape) → x.shape.rest ≡ first ∷ behind →
+    enter : {x : Stage} (first : Left) (behind : List Left) (a : Atom) (from to : When) (number : ℕ) (clause : MacroClause) (h : Shape) → x.shape.rest ≡ first ∷ behind →
         first.item ≡ l.Span a from to → is_macro (kind_of text a.name) ≡ true → numbered (clauses_of text a.name) number ≡ Some clause → IsLeftSmall first.item → UnfoldsTo text clause x.shape h →
         Alone end (record { before = x.before; last = None; shape = h }) → Alone end x

@@ -13,7 +13,7 @@ use Rattle.lps_meaning.specs.declared.node.LeftItem.{LeftItem}
 use Rattle.lps_meaning.specs.declared.node.LeftItem.TheVariants as l
 use Rattle.lps_meaning.specs.declared.node.Node.{Node}
 use Rattle.lps_meaning.specs.Cycles.{AreGoals}
-use Rattle.lps_meaning.specs.Goals.{AreGround, CanGoOn, IsLive, IsPending, IsClosed}
+use Rattle.lps_meaning.specs.Goals.{AreAllGround, CanGoOn, IsLive, IsPending, IsClosed}
 use Rattle.lps_model.specs.Rules.{Rule, rules}
 use Rattle.lps_meaning.specs.Sequences.{Place, Values, Times, Walk, start, rank, done, is_call}
 use Rattle.lps_nodes.specs.Shapes.{Sequence, alternative_of, antecedent_of, Shape, IsGeneral, IsCanonical, untested}
@@ -39,7 +39,7 @@ module _ (text : Text) (level : List ℕ → ℕ) (trace : Trace) where
   pub record IsWaitingNode (rule : Rule) (now : ℕ) (node : Node) : Type 0 where
     pub values : Values
     pub times : Times
-    pub ground : AreGround values
+    pub ground : AreAllGround values
     pub end : Place
     pub walk : Walk text level trace [] values times now end (start text 0 rule.antecedent)
     pub on : CanGoOn text [] values times now rule.antecedent end

@@ -9,7 +9,7 @@ use Rattle.lps_meaning.specs.declared.goal.Closed.{Closed}
 use Rattle.lps_meaning.specs.declared.goal.Closed.TheVariants as c
 use Rattle.lps_meaning.specs.declared.goal.Counts.{Counts}
 use Rattle.lps_meaning.specs.declared.goal.GoalKey.{GoalKey}
-use Rattle.lps_meaning.specs.Goals.{IsMet, IsRuleTrue, HasStatus}
+use Rattle.lps_meaning.specs.Goals.{IsFulfilled, IsRuleTrue, HasStatus}
 use Rattle.lps_meaning.specs.Reports.{AreCounts, is_pending, is_failed, is_cut}
 
 abbrev one_if : Bool → ℕ
@@ -29,18 +29,18 @@ module _ (text : Text) (level : List ℕ → ℕ) (depth : ℕ) (trace : Trace) 
   Has key status = HasStatus text level trace depth key (length trace.cycles) status
 
   met_of : (key : GoalKey) (status : Option Closed) → Has key status → one_if (is_pending status) ≡ 0 → one_if (is_failed status) ≡ 0 → one_if (is_cut status) ≡ 0 →
-      IsMet text level trace key (length trace.cycles)
+      IsFulfilled text level trace key (length trace.cycles)
   met_of key (Some c.Solved) h e f g = h.met
   met_of key None h e f g = absurd (omega (arith, e))
   met_of key (Some c.Failed) h e f g = absurd (omega (arith, f))
   met_of key (Some c.Cut) h e f g = absurd (omega (arith, g))
 
   each_met : (keys : List GoalKey) (statuses : List (Option Closed)) → AllZip Has keys statuses → count_by is_pending statuses ≡ 0 → count_by is_failed statuses ≡ 0 →
-      count_by is_cut statuses ≡ 0 → (n : ℕ) (key : GoalKey) → n < length keys → slice_index_or keys n key ≡ key → IsMet text level trace key (length trace.cycles)
+      count_by is_cut statuses ≡ 0 → (n : ℕ) (key : GoalKey) → n < length keys → slice_index_or keys n key ≡ key → IsFulfilled text level trace key (length trace.cycles)
   each_met [] statuses h e f g n key lt is = absurd (omega arith)
   each_met (x ∷ keys) [] h e f g n key lt is = absurd h
   each_met (x ∷ keys) (y ∷ statuses) h e f g zero key lt is =
-      subst (λ z. IsMet text level trace z (length trace.cycles)) is
+      subst (λ z. IsFulfilled text level trace z (length trace.cycles)) is
       (met_of x y h.0 (zero_left is_pending y statuses e) (zero_left is_failed y statuses f) (zero_left is_cut y statuses g))
   each_met (x ∷ keys) (y ∷ statuses) h e f g (suc n) key lt is =
       each_met keys statuses h.1 (zero_right is_pending y statuses e) (zero_right is_failed y statuses f) (zero_right is_cut y statuses g) n key (omega arith) is

@@ -11,7 +11,7 @@ use Rattle.lps_meaning.specs.declared.goal.Closed.TheVariants as c
 use Rattle.lps_meaning.specs.declared.goal.GoalKey.{GoalKey}
 use Rattle.lps_meaning.specs.Frames.{AreFramed}
 use Rattle.lps_meaning.specs.Sequences.{Place, Walk, AreInOrder, AreLimits, IsAhead, IsSmallSoFar, IsWithin, start}
-use Rattle.lps_meaning.specs.Goals.{Reaches, IsMet, IsMetWithin, IsPlan, HasLive, HasMetCut, IsClosed, shared_values}
+use Rattle.lps_meaning.specs.Goals.{Reaches, IsFulfilled, IsFulfilledWithin, IsPlan, HasLive, HasMetCut, IsClosed, shared_values}
 use Rattle.lps_meaning.proofs.Walks.{in_order, tight, forward, wider}
 use Rattle.lps_meaning.proofs.Splits.{Split, split, at_end, ahead, deep, small_back, limits_back, entries_nest, le_or_lt}
 
@@ -115,7 +115,7 @@ module _ (text : Text) (level : List ℕ → ℕ) (framed : AreFramed text) (tra
       ⊎ (HasLive text level trace depth key now ⊎ (HasMetCut text level trace depth key now × (IsWithin depth end → ⊥)))
   advance_plan end plan = advance end plan.reaches plan.on.in_order plan.on.limits plan.on.small
 
-  advance_met : (h : IsMet text level trace key later) →
+  advance_met : (h : IsFulfilled text level trace key later) →
       (WalkOf text level trace key h.reaches now h.end × IsWithin depth h.end)
       ⊎ (HasLive text level trace depth key now ⊎ (HasMetCut text level trace depth key now × (IsWithin depth h.end → ⊥)))
   advance_met h =
@@ -130,10 +130,10 @@ module _ (text : Text) (level : List ℕ → ℕ) (framed : AreFramed text) (tra
         | inr (inr deeper) ↦ absurd (deeper.1 h.1.plan.within)
       ]
 
-  abbrev met_now : (h : IsMet text level trace key later) → WalkOf text level trace key h.reaches now h.end → IsWithin depth h.end → IsMetWithin text level trace depth key now
+  abbrev met_now : (h : IsFulfilled text level trace key later) → WalkOf text level trace key h.reaches now h.end → IsWithin depth h.end → IsFulfilledWithin text level trace depth key now
   met_now h walk within = record { met = record { end = h.end; reaches = with_walk text level trace key h.reaches walk; whole = h.whole; limits = h.limits }; within = within }
 
-  met_back : IsMet text level trace key later → IsMetWithin text level trace depth key now ⊎ (HasLive text level trace depth key now ⊎ HasMetCut text level trace depth key now)
+  met_back : IsFulfilled text level trace key later → IsFulfilledWithin text level trace depth key now ⊎ (HasLive text level trace depth key now ⊎ HasMetCut text level trace depth key now)
   met_back h =
       elim (advance_met h) [
         | inl w ↦ inl (met_now h w.0 w.1)
@@ -141,7 +141,7 @@ module _ (text : Text) (level : List ℕ → ℕ) (framed : AreFramed text) (tra
         | inr (inr deeper) ↦ inr (inr deeper.0)
       ]
 
-  met_within_back : IsMetWithin text level trace depth key later → IsMetWithin text level trace depth key now ⊎ HasLive text level trace depth key now
+  met_within_back : IsFulfilledWithin text level trace depth key later → IsFulfilledWithin text level trace depth key now ⊎ HasLive text level trace depth key now
   met_within_back h =
       elim (advance_met h.met) [
         | inl w ↦ inl (met_now h.met w.0 w.1)
@@ -149,7 +149,7 @@ module _ (text : Text) (level : List ℕ → ℕ) (framed : AreFramed text) (tra
         | inr (inr deeper) ↦ absurd (deeper.1 h.within)
       ]
 
-  met_on : IsMetWithin text level trace depth key now → IsMetWithin text level trace depth key later
+  met_on : IsFulfilledWithin text level trace depth key now → IsFulfilledWithin text level trace depth key later
   met_on h = record {
     met = record {
       end = h.met.end;
@@ -189,11 +189,11 @@ module _ (text : Text) (level : List ℕ → ℕ) (framed : AreFramed text) (tra
       ]
 
   -- after Failed no alternative is true at any nesting
-  pub failed_forever : IsClosed text level trace depth key now c.Failed → IsMet text level trace key later → ⊥
+  pub failed_forever : IsClosed text level trace depth key now c.Failed → IsFulfilled text level trace key later → ⊥
   failed_forever none h = either none.0 (either none.1 none.2) (met_back text level framed trace depth key now later after le h)
 
   -- after Cut none is by an instance within the depth
-  pub cut_forever : IsClosed text level trace depth key now c.Cut → IsMetWithin text level trace depth key later → ⊥
+  pub cut_forever : IsClosed text level trace depth key now c.Cut → IsFulfilledWithin text level trace depth key later → ⊥
   cut_forever none h = either none.0 none.1 (met_within_back text level framed trace depth key now later after le h)
 
   pub stays : (how : Closed) → IsClosed text level trace depth key now how → IsClosed text level trace depth key later how

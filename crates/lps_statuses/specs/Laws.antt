@@ -6,7 +6,7 @@ use Rattle.lps_meaning.specs.declared.goal.Closed.{Closed}
 use Rattle.lps_meaning.specs.declared.goal.Closed.TheVariants as c
 use Rattle.lps_meaning.specs.declared.goal.Counts.{Counts}
 use Rattle.lps_meaning.specs.declared.goal.GoalKey.{GoalKey}
-use Rattle.lps_meaning.specs.Goals.{IsClosed, HasStatus, IsMet, IsMetWithin, IsRuleTrue}
+use Rattle.lps_meaning.specs.Goals.{IsClosed, HasStatus, IsFulfilled, IsFulfilledWithin, IsRuleTrue}
 use Rattle.lps_meaning.specs.Laws.{IsContinuation}
 use Rattle.lps_meaning.specs.Reports.{AreCounts}
 
@@ -23,12 +23,12 @@ StatusStays IsOfSort = (text : Text) (level : List ℕ → ℕ) (depth : ℕ) �
 -- in texts of this sort no alternative becomes true after Failed, at any nesting
 abbrev pub FailedIsForever : (Text → Type 0) → Type 0
 FailedIsForever IsOfSort = (text : Text) (level : List ℕ → ℕ) (depth : ℕ) → IsOfSort text → InEachContinuation
-    (λ trace key now. IsClosed text level trace depth key now c.Failed) (λ longer key later. IsMet text level longer key later → ⊥)
+    (λ trace key now. IsClosed text level trace depth key now c.Failed) (λ longer key later. IsFulfilled text level longer key later → ⊥)
 
 -- in texts of this sort none does after Cut by an instance that nests at most the depth
 abbrev pub CutIsForever : (Text → Type 0) → Type 0
 CutIsForever IsOfSort = (text : Text) (level : List ℕ → ℕ) (depth : ℕ) → IsOfSort text → InEachContinuation
-    (λ trace key now. IsClosed text level trace depth key now c.Cut) (λ longer key later. IsMetWithin text level longer depth key later → ⊥)
+    (λ trace key now. IsClosed text level trace depth key now c.Cut) (λ longer key later. IsFulfilledWithin text level longer depth key later → ⊥)
 
 -- where no goal is pending, failed or cut, every rule is true
 abbrev pub RulesAreTrue : Type 0

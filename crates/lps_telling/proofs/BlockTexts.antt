@@ -183,7 +183,7 @@ same_cycle k one other paired matched g h rest after e =
 -- ---- runs
 
 judged_paired : (text : Text) (level : List ℕ → ℕ) (depth : ℕ) (trace : Trace) (before events : List Atom) (verdicts : List Verdict) →
-    AreJudged text level depth trace before events verdicts → length events ≡ length verdicts
+    AreJudged text level trace before events verdicts → length events ≡ length verdicts
 judged_paired text level depth trace before [] [] h = refl
 judged_paired text level depth trace before [] (v ∷ vs) h = absurd h
 judged_paired text level depth trace before (x ∷ xs) [] h = absurd h

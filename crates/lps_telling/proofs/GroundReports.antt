@@ -10,13 +10,13 @@ use Rattle.lps_model.specs.declared.cycle.Cycle.{Cycle}
 use Rattle.lps_model.specs.declared.trace.Trace.{Trace}
 use Rattle.lps_model.specs.Acceptance.{IsAccepted}
 use Rattle.lps_model.specs.Formed.{is_formed}
-use Rattle.lps_model.specs.Order.{occurs}
+use Rattle.lps_model.specs.Order.{occurs, times_of}
 use Rattle.lps_model.specs.Trace.{cycle_at, cycle_or_none, then_cycle}
 use Rattle.lps_derivation.specs.Ground.{is_ground}
 use Rattle.lps_meaning.specs.declared.goal.GoalKey.{GoalKey}
 use Rattle.lps_meaning.specs.declared.goal.NewGoal.{NewGoal}
 use Rattle.lps_meaning.specs.Cycles.{AreLegal, IsRun}
-use Rattle.lps_meaning.specs.Goals.{IsGoal, distinct, item_times, shared_times, shared_values}
+use Rattle.lps_meaning.specs.Goals.{IsGoal, distinct, shared_times, shared_values}
 use Rattle.lps_telling.specs.Laws.{IsGroundReport, IsSmallReport}
 use Rattle.lps_telling.specs.Grounded.{IsGroundCycle, IsGroundGoal}
 use Rattle.lps_model.specs.Rules.{is_macro, kind_of, rules}
@@ -125,7 +125,7 @@ of_distinct P seen (v ∷ vs) h = by (occurs v seen) (of_distinct P seen vs h.1)
 
 -- the times of items, if those of their steps are not later and those of their constraints neither
 times_by : (text : Text) (now : ℕ) (t : Times) (before : Option Item) (items : List Item) → AreBy now t (entries text 0 0 before items) →
-    AllByRecursion (IsConOf (λ v. t 0 v ≤ now)) items → AllByRecursion (λ v. t 0 v ≤ now) (flat_map item_times items)
+    AllByRecursion (IsConOf (λ v. t 0 v ≤ now)) items → AllByRecursion (λ v. t 0 v ≤ now) (flat_map times_of items)
 times_by text now t before [] h con = tt
 times_by text now t before (i.At lit time ∷ items) h con = (h.0, times_by text now t (Some (i.At lit time)) items h.1 con.1)
 times_by text now t before (i.Span a from to ∷ items) h con = (h.0.0, (h.0.1, times_by text now t (Some (i.Span a from to)) items h.1 con.1))
@@ -149,8 +149,8 @@ module _ (text : Text) (accepted : IsAccepted text) (level : List ℕ → ℕ) (
       let cons = all_to (IsConOf (λ v. IsStepped v rule.antecedent)) (IsConOf (λ v. h.times 0 v ≤ key.time))
       (con_to (λ v. IsStepped v rule.antecedent) (λ v. h.times 0 v ≤ key.time) (λ v is. stepped_by text key.time h.times 0 0 None rule.antecedent v by is)) rule.antecedent stepped.0 in
       let all = times_by text key.time h.times None rule.antecedent by cons in
-      let shared = of_filter (λ v. h.times 0 v ≤ key.time) (λ v. occurs v (flat_map (flat_map item_times) rule.alternatives)) (distinct [] (flat_map item_times rule.antecedent))
-      (of_distinct (λ v. h.times 0 v ≤ key.time) [] (flat_map item_times rule.antecedent) all) in
+      let shared = of_filter (λ v. h.times 0 v ≤ key.time) (λ v. occurs v (flat_map (flat_map times_of) rule.alternatives)) (distinct [] (flat_map times_of rule.antecedent))
+      (of_distinct (λ v. h.times 0 v ≤ key.time) [] (flat_map times_of rule.antecedent) all) in
       subst (AllByRecursion (λ time. time ≤ key.time)) h.of_key.times (of_map_each (λ time. time ≤ key.time) (h.times 0) (shared_times rule) shared)
 
 -- ---- blocks

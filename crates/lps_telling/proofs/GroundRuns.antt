@@ -26,7 +26,7 @@ use Rattle.lps_model.specs.Trace.{admitted, then_cycle}
 use Rattle.lps_derivation.specs.Ground.{is_ground}
 use Rattle.lps_meaning.specs.declared.goal.GoalKey.{GoalKey}
 use Rattle.lps_meaning.specs.Cycles.{AreLegal, ArePicks, IsOutside, IsProposal, IsRun, joined, joined_item}
-use Rattle.lps_meaning.specs.Goals.{AreGround}
+use Rattle.lps_meaning.specs.Goals.{AreAllGround}
 use Rattle.lps_meaning.specs.Reports.{IsGroundAtom}
 use Rattle.lps_telling.specs.Grounded.{IsGroundCycle, IsGroundPick, IsSmallCycle}
 use Rattle.lps_model.specs.Rules.{MacroClause, Rule, rules}
@@ -79,7 +79,7 @@ module _ (text : Text) (formed : IsTrue (is_formed text)) where
       ground_atom h.variables s ground a
       (both (is_formed_atom h.variables a) (nat_lt from.0 h.times) (both (is_formed_atom h.variables a && nat_lt from.0 h.times) (nat_lt to.0 h.times) h.formed).0).0
 
-  joined_ground : (s : Values) → AreGround s → (es : List Entry) → AreFormedEntries text formed es → AllByRecursion IsGroundAtom (joined s es)
+  joined_ground : (s : Values) → AreAllGround s → (es : List Entry) → AreFormedEntries text formed es → AllByRecursion IsGroundAtom (joined s es)
   joined_ground s ground [] h = tt
   joined_ground s ground (e ∷ es) h = one e.joins e.item h.0 (joined_ground s ground es h.1) where
     one : (joins : Bool) (item : Item) → IsFormedItem item → AllByRecursion IsGroundAtom (joined s es) → AllByRecursion IsGroundAtom (joined_item s e.env joins item (joined s es))
@@ -120,7 +120,7 @@ module _ (text : Text) (formed : IsTrue (is_formed text)) where
     by true same later e = subst (λ n. is_proper_name n ≡ true) ((bytes_eq-Decides d.name name).0 same) h.0
     by false same later e = later e
 
-  events_ground : (level : List ℕ → ℕ) (depth : ℕ) (trace : Trace) (events : List Atom) → AllByRecursion (IsOutside text level depth trace) events → AllByRecursion IsGroundAtom events
+  events_ground : (level : List ℕ → ℕ) (depth : ℕ) (trace : Trace) (events : List Atom) → AllByRecursion (IsOutside text) events → AllByRecursion IsGroundAtom events
   events_ground level depth trace [] h = tt
   events_ground level depth trace (event ∷ events) h = ((named (declarations text) declarations_named event.name _ h.0.0.kind, h.0.1), events_ground level depth trace events h.1)
 

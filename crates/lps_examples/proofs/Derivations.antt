@@ -18,7 +18,8 @@ use Rattle.lps_derivation.specs.Instances.{put_clause, IsInstance}
 use Rattle.lps_derivation.specs.Levels.{IsUnder, AreLevels}
 use Rattle.lps_derivation.specs.Derivation.{IsDerived, IsMet, Follows, of_fact}
 use Rattle.lps_derivation.specs.Laws.{Passes}
-use Rattle.lps_derivation.specs.Examples.{unary, plain, negated, first_clause, second_clause, third_clause, example_program, constant_a, constant_b, example_facts, example_level}
+use Rattle.lps_examples.specs.Derivations.{plain, negated, first_clause, second_clause, third_clause, example_program, constant_a, constant_b, example_facts, example_level}
+use Rattle.lps_examples.specs.Examples.{unary}
 use Rattle.lps_derivation.proofs.Truth.{equation, follows}
 
 -- what holds of each item of a list holds of what it contains

@@ -13,10 +13,7 @@ use Rattle.lps_terms.specs.Names.{name_eq}
 use Rattle.lps_model.specs.Clauses.{Clause}
 use Rattle.lps_derivation.specs.Laws.{IsDerivedFrom}
 use Rattle.lps_derivation.specs.Levels.{AreLevels}
-
--- a predicate of one argument
-abbrev pub unary : List ℕ → Term → Atom
-unary name x = record { name = name; args = x ∷ [] }
+use Rattle.lps_examples.specs.Examples.{unary}
 
 -- the atom, or `not` and the atom, as a condition
 abbrev pub plain : Atom → Cond

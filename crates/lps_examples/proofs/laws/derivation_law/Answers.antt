@@ -1,5 +1,5 @@
-use Rattle.lps_derivation.proofs.Examples.{levels, one_answer}
-use Rattle.lps_derivation.proofs.laws.example_law.Goals as goal
+use Rattle.lps_examples.proofs.Derivations.{levels, one_answer}
+use Rattle.lps_examples.proofs.laws.derivation_law.Goals as goal
 
 pub returns-clause-levels : goal.returns-clause-levels
 returns-clause-levels c = levels
