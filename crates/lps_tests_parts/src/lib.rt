@@ -1,0 +1,29 @@
+//! Tests of the parts of a run: terms and names, sets of facts, unification, values, denials and effects, and an outside in
+//! memory.
+//!
+//! It stands on these parts and on the reader of texts, by which terms, atoms and conditions are written as texts, and knows
+//! nothing of whole runs. It carries no theorem: each table has texts, and what a part makes of them, worked out by hand.
+#![tactic(auto)]
+
+#[cfg(test)]
+mod changes;
+#[cfg(test)]
+mod conditions;
+#[cfg(test)]
+mod denials;
+#[cfg(test)]
+mod names;
+#[cfg(test)]
+mod orders;
+#[cfg(test)]
+mod outside;
+#[cfg(test)]
+mod patterns;
+#[cfg(test)]
+mod program;
+#[cfg(test)]
+mod towers;
+#[cfg(test)]
+mod unifiers;
+#[cfg(test)]
+mod written;

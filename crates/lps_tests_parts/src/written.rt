@@ -1,0 +1,55 @@
+//! Terms, atoms and conditions, as a text writes them: variables are numbered from 0 in the order in which they first occur.
+use lps_reader::read_text;
+use lps_terms::{Atom, Body, Cond, Term, print_atom};
+use sqlite_items::Items;
+use std::alloc::{AllocError, Global};
+use std::test::Fail;
+
+/// What the last statement of a text says.
+fn body_of(alloc: Global, text: &str) -> Result<Body, Fail> {
+    let mut text = read_text(alloc, text.as_bytes()).ok().ok_or("not read")?;
+    let statement = text.statements.pop().ok_or("no statement")?;
+    Ok(statement.body)
+}
+
+/// The atoms of a list.
+pub fn atoms_of(alloc: Global, list: &str) -> Result<Items<Atom>, Fail> {
+    if list.is_empty() {
+        return Ok(Items::new(alloc));
+    }
+    let text = format!(in alloc; "initially {list}.")?;
+    match body_of(alloc, text.as_str())? {
+        Body::Initially(atoms) => Ok(atoms),
+        _ => Err(Fail::from("no atoms")),
+    }
+}
+
+/// An atom alone.
+pub fn atom_of(alloc: Global, atom: &str) -> Result<Atom, Fail> {
+    Ok(atoms_of(alloc, atom)?.pop().ok_or("no atom")?)
+}
+
+/// The terms of a list.
+pub fn terms_of(alloc: Global, list: &str) -> Result<Items<Term>, Fail> {
+    let atom = format!(in alloc; "p({list})")?;
+    Ok(atom_of(alloc, atom.as_str())?.args)
+}
+
+/// The conditions of a list.
+pub fn conditions_of(alloc: Global, list: &str) -> Result<Items<Cond>, Fail> {
+    let text = format!(in alloc; "p if {list}.")?;
+    match body_of(alloc, text.as_str())? {
+        Body::Clause { head: _, conds } => Ok(conds),
+        _ => Err(Fail::from("no conditions")),
+    }
+}
+
+/// The texts of atoms, each with a space behind it.
+pub fn shown(alloc: Global, atoms: &[Atom]) -> Result<Vec<u8>, AllocError> {
+    let mut text = Vec::new(alloc);
+    for atom in atoms {
+        print_atom(atom, &mut text)?;
+        text.push(b' ')?;
+    }
+    Ok(text)
+}
