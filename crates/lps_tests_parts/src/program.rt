@@ -1,5 +1,5 @@
 //! A text that is read and accepted, and what happens to its initial facts.
-ghost use Rattle.std.specs.Prelude.{◌≡◌, IfOk, IsTrue};
+ghost use Rattle.std.specs.Prelude.{IfOk, IsTrue};
 ghost use Rattle.lps_model.specs.Formed.{is_formed};
 ghost use Rattle.lps_facts.specs.Facts.{members};
 ghost use Rattle.lps_causal.specs.Names.{AreEvents, AreFluents, IsEvent, IsFluent};
@@ -116,20 +116,6 @@ fn tried(
     denials.try_events(alloc, program, facts, events, effects)
 }
 
-/// Whether the facts may be a state, and the events may happen in it.
-fn may_happen(
-    alloc: Global,
-    program: &Program,
-    facts: &Facts,
-    events: &[Atom],
-) -> Result<bool, AllocError>
-    ensures state { IfOk result (λ may. IsTrue may → AreFluents program.now (members facts.now)) }
-    ensures events { IfOk result (λ may. IsTrue may → AreEvents program.now events.now) }
-{
-    let sorted = facts.sorted(alloc)?;
-    Ok(are_fluents(program, sorted.as_slice()) && are_events(program, events))
-}
-
 /// The effects of these events in this state.
 pub fn effects_in(
     alloc: Global,
@@ -137,7 +123,8 @@ pub fn effects_in(
     facts: &mut Facts,
     events: &[Atom],
 ) -> Result<Effects, Fail> {
-    if !may_happen(alloc, program, facts, events)? {
+    let sorted = facts.sorted(alloc)?;
+    if !are_fluents(program, sorted.as_slice()) || !are_events(program, events) {
         return Err(Fail::from("no state or no events"));
     }
     Ok(effects_of(alloc, program, facts, events)?)
@@ -150,7 +137,8 @@ pub fn tried_in(
     facts: &mut Facts,
     events: &[Atom],
 ) -> Result<Option<u32>, Fail> {
-    if !may_happen(alloc, program, facts, events)? {
+    let sorted = facts.sorted(alloc)?;
+    if !are_fluents(program, sorted.as_slice()) || !are_events(program, events) {
         return Err(Fail::from("no state or no events"));
     }
     Ok(tried(alloc, program, facts, events)?)

@@ -29,7 +29,7 @@ fn show_bad(alloc: Global, out: &mut Vec<u8>, bad: BatchBad) -> Result<(), Fail>
 /// Shows the batches of the whole lines that are left. True where a bad line stands behind them.
 fn show_whole(alloc: Global, reader: &mut BatchReader, out: &mut Vec<u8>) -> Result<bool, Fail>
     requires { reader.old.lines + length reader.old.left < 2 ^ 63 }
-    ensures room { reader.new.lines + length reader.new.left ≤ reader.old.lines + length reader.old.left }
+    ensures { reader.new.lines + length reader.new.left ≤ reader.old.lines + length reader.old.left }
 {
     for _ in 0..u64::MAX {
         match reader.next(alloc)? {
@@ -79,7 +79,8 @@ fn shown(alloc: Global, stream: &[u8], size: usize) -> Result<Vec<u8>, Fail>
     while at < stream.len() {
         let piece = piece_at(stream, at, size);
         reader.feed(piece)?;
-        if show_whole(alloc, &mut reader, &mut out)? {
+        let is_bad = show_whole(alloc, &mut reader, &mut out)?;
+        if is_bad {
             return Ok(out);
         }
         at += piece.len();
