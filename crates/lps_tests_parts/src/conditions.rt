@@ -44,12 +44,7 @@ const VALUES: [(&str, Option<i64>); 26] = [
     ("X", None),
 ];
 
-fn check_value(
-    rt: &impl Abort,
-    alloc: Global,
-    text: &str,
-    want: Option<i64>,
-) -> Result<(), Fail> {
+fn check_value(rt: &impl Abort, alloc: Global, text: &str, want: Option<i64>) -> Result<(), Fail> {
     let is = format!(in alloc; "Y is {text}")?;
     let Built::Is(_, expr) = built_of(alloc, is.as_str())? else {
         return Err(Fail::from("no expression"));

@@ -16,7 +16,8 @@ const ROOM: &str = "fluent in/1. event enter/1, leave/1. initially in(a).
 enter(X) initiates in(X). leave(X) terminates in(X).
 false enter(X) from T1 to T2, in(X) at T2, in(Y) at T2, X \\= Y.";
 
-const TANK: &str = "fluent level/1, open/0. event fill/1, unlock/0. timeless most(-). most(5). initially level(2).
+const TANK: &str =
+    "fluent level/1, open/0. event fill/1, unlock/0. timeless most(-). most(5). initially level(2).
 unlock initiates open. fill(N) initiates level(M) if level(L), M is L + N. fill(N) terminates level(L) if level(L).
 false fill(N) from T1 to T2, level(L) at T1, not open at T1, most(K), level(M) at T2, not open at T2, M > L + K.";
 
@@ -70,7 +71,8 @@ fn events_that_are_tried(rt: HostRuntime) -> Result<(), Fail> {
     Ok(())
 }
 
-const LAMPS: &str = "fluent on/1, off/1. event press/1, cut/0. timeless next(+, -). next(a, b). next(b, a). initially on(a), off(b).
+const LAMPS: &str =
+    "fluent on/1, off/1. event press/1, cut/0. timeless next(+, -). next(a, b). next(b, a). initially on(a), off(b).
 press(X) initiates on(Y) if on(X), next(X, Y). press(X) terminates on(X). press(X) initiates off(X) if not off(X).
 cut terminates on(X) if on(X). cut terminates off(X) if off(X), X \\= b. cut initiates on(b) if on(b).";
 

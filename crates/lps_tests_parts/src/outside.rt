@@ -70,11 +70,7 @@ const STREAMS: [(usize, &[u64], &[Option<&str>]); 4] = [
     ),
     (2, &[], &[Some("ab"), Some("cd"), Some("e"), Some("")]),
     (9, &[], &[Some("abc"), Some("de"), Some("")]),
-    (
-        2,
-        &[4, 2],
-        &[Some("ab"), None, Some("cd"), None, Some("e")],
-    ),
+    (2, &[4, 2], &[Some("ab"), None, Some("cd"), None, Some("e")]),
 ];
 
 fn check_stream(rt: &impl Abort, source: &mut impl Source, wants: &[Option<&str>]) {

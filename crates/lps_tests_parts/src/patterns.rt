@@ -8,7 +8,8 @@ use std::test::Fail;
 /// Facts of several names, of which one is taken out again.
 fn facts(alloc: Global) -> Result<Facts, Fail> {
     let mut facts = Facts::new(alloc);
-    let list = "p(b, c), q(a, c), q(b, a), q(b, b), q(b, c), q(c, b), q(d, d), r(b, c), p(b), p(a), p";
+    let list =
+        "p(b, c), q(a, c), q(b, a), q(b, b), q(b, c), q(c, b), q(d, d), r(b, c), p(b), p(a), p";
     facts.insert_all(atoms_of(alloc, list)?.as_slice())?;
     facts.remove(&atom_of(alloc, "q(b, b)")?)?;
     Ok(facts)
@@ -19,10 +20,7 @@ const PATTERNS: [(&str, &str); 14] = [
     ("q(b, X)", "q(b, a) q(b, c) "),
     ("q(X, c)", "q(a, c) q(b, c) "),
     ("q(X, X)", "q(d, d) "),
-    (
-        "q(X, Y)",
-        "q(a, c) q(b, a) q(b, c) q(c, b) q(d, d) ",
-    ),
+    ("q(X, Y)", "q(a, c) q(b, a) q(b, c) q(c, b) q(d, d) "),
     ("q(b, c)", "q(b, c) "),
     ("q(b, b)", ""),
     ("q(e, X)", ""),
