@@ -16,7 +16,7 @@ enum Step {
 use Step::{Insert, Remove};
 
 /// Makes the step. True where it changes the set.
-fn step(alloc: Global, facts: &mut Facts, step: Step) -> Result<bool, Fail> {
+fn make_step(alloc: Global, facts: &mut Facts, step: Step) -> Result<bool, Fail> {
     match step {
         Insert(fact) => Ok(facts.insert(&atom_of(alloc, fact)?)?),
         Remove(fact) => Ok(facts.remove(&atom_of(alloc, fact)?)?),
@@ -46,7 +46,7 @@ fn changes(rt: HostRuntime) -> Result<(), Fail> {
     let mut facts = Facts::new(rt.alloc());
     let mark = facts.mark();
     for (one, changed, want) in STEPS {
-        assert_eq!(rt; step(rt.alloc(), &mut facts, one)?, changed);
+        assert_eq!(rt; make_step(rt.alloc(), &mut facts, one)?, changed);
         check(&rt, rt.alloc(), &facts, want)?;
     }
     facts.undo_to(&mark);
@@ -82,13 +82,13 @@ fn check_print(rt: &impl Abort, alloc: Global, facts: &Facts, want: &str) -> Res
 fn settling(rt: HostRuntime) -> Result<(), Fail> {
     let alloc = rt.alloc();
     let mut facts = Facts::new(alloc);
-    step(alloc, &mut facts, Insert("p(a)"))?;
-    step(alloc, &mut facts, Insert("p(b)"))?;
-    step(alloc, &mut facts, Remove("p(a)"))?;
+    make_step(alloc, &mut facts, Insert("p(a)"))?;
+    make_step(alloc, &mut facts, Insert("p(b)"))?;
+    make_step(alloc, &mut facts, Remove("p(a)"))?;
     facts.settle();
     check_print(&rt, alloc, &facts, " p(b)")?;
     let mark = facts.mark();
-    step(alloc, &mut facts, Insert("p(a)"))?;
+    make_step(alloc, &mut facts, Insert("p(a)"))?;
     check_print(&rt, alloc, &facts, " p(a), p(b)")?;
     facts.undo_to(&mark);
     check_print(&rt, alloc, &facts, " p(b)")
