@@ -50,7 +50,6 @@ fn print_state(facts: &Facts, out: &mut Vec<u8>) -> Result<(), AllocError>
 impl<'a> Block<'a> {
     /// Appends the block: the number of the cycle, a line for each event and each pick, the state, and a line for each goal
     /// that is new or was closed. The error is that memory ran out; some of the block may then be appended.
-    #[tactic(auto, using(crate::proofs::Pieces::block_pieces), unfolding(lps_meaning::specs::Reports::block_text))]
     pub fn print(&self, out: &mut Vec<u8>) -> Result<(), AllocError>
         ensures { OnOk result (out.new.items ≡ out.old.items ++ block_text self.now.number (record {
           cycle = self.now.cycle.now;

@@ -10,7 +10,6 @@ use lps_meaning::{Closed, GoalId, GoalKey, NewGoal};
 use std::alloc::AllocError;
 
 /// Appends the values and the times of a key, where it has any.
-#[tactic(auto, using(crate::proofs::Pieces::key_values))]
 fn print_key(key: &GoalKey, out: &mut Vec<u8>) -> Result<(), AllocError>
     ensures { OnOk result (out.new.items ≡ out.old.items ++ with_values (map printed key.now.values ++ map decimal key.now.times)) }
 {

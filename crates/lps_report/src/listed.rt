@@ -20,7 +20,6 @@ fn print_lead(first: &[u8], later: bool, out: &mut Vec<u8>) -> Result<(), AllocE
 }
 
 /// Appends atoms, with a comma and a space between each two.
-#[tactic(auto, using(crate::proofs::Pieces::are_separated))]
 pub(crate) fn print_atoms(atoms: &[Atom], out: &mut Vec<u8>) -> Result<(), AllocError>
     ensures { OnOk result (out.new.items ≡ out.old.items ++ listed atom_text atoms.now) }
 {
