@@ -114,6 +114,22 @@ fn nested(alloc: Global, name: &str, count: usize) -> Result<String, AllocError>
     Ok(text)
 }
 
+/// The law of one event makes the report of this stream.
+fn check_law<'a>(
+    rt: &impl Abort,
+    alloc: Global,
+    stream: &'a str,
+    printed: &'a str,
+) -> Result<(), Fail> {
+    let call = Call {
+        text: "fluent p/1. event e/1. e(X) initiates p(s(X)).",
+        stream,
+        printed,
+        ..PLAIN
+    };
+    check_run(rt, alloc, &call)
+}
+
 /// An event of `e` round so many `s` is admitted, and leaves this state.
 fn check_nested(rt: &impl Abort, alloc: Global, count: usize, state: &str) -> Result<(), Fail> {
     let event = nested(alloc, "e", count)?;
@@ -121,13 +137,7 @@ fn check_nested(rt: &impl Abort, alloc: Global, count: usize, state: &str) -> Re
     let printed = format!(in alloc;
         "cycle 0\nstate\ncycle 1\nadmit {event}\nstate{state}\ndone\n"
     )?;
-    let call = Call {
-        text: "fluent p/1. event e/1. e(X) initiates p(s(X)).",
-        stream: stream.as_str(),
-        printed: printed.as_str(),
-        ..PLAIN
-    };
-    check_run(rt, alloc, &call)
+    check_law(rt, alloc, stream.as_str(), printed.as_str())
 }
 
 /// An event of 1,023 symbols initiates a fact of 1,024; one of 1,024 symbols is admitted and initiates none.
