@@ -1,7 +1,7 @@
 #!/usr/bin/env python3
 """Measures cycles over states of several sizes, with laws under conditions and denials over both states.
 
-Usage: bench/states.py [PROGRAM]    the program as built, ./out/lps_prog by default
+Usage: bench/states.py [PROGRAM]    the program as built, by default that of crates/lps_prog
 
 A text keeps a count for each of so many cells. Each cycle brings three events for one cell: a step that is admitted, one that a
 denial over the state before rejects, and one that a denial over both states rejects. Each line is the best of three runs, the start of the
