@@ -7,13 +7,14 @@ use lib.Dec.{is_le}
 use Rattle.lps_terms.specs.declared.term.Term.{Term}
 use Rattle.lps_terms.specs.declared.term.Term.TheVariants as t
 use Rattle.lps_terms.specs.Names.{is_proper_name}
-use Rattle.lps_model.specs.Formed.{is_formed_term, is_formed-Int, is_formed-Sym, is_formed-App, is_formed-Var, is_word}
+use Rattle.lps_model.specs.Formed.{is_formed_term, is_formed-Int, is_formed-Sym, is_formed-App, is_formed-Var}
+use Rattle.lps_terms.specs.Integers.{is_i64}
 
 -- a ground term: a well-formed one without variables
 abbrev pub is_ground : Term → Bool
 is_ground = is_formed_term 0
 
-pub is_ground-Int : (z : ℤ) → is_ground (t.Int z) ≡ is_word z
+pub is_ground-Int : (z : ℤ) → is_ground (t.Int z) ≡ is_i64 z
 is_ground-Int = is_formed-Int 0
 
 pub is_ground-Sym : (n : List ℕ) → is_ground (t.Sym n) ≡ is_proper_name n

@@ -2,4 +2,3 @@ pub mod Facts
 pub mod Trail
 pub mod Matching
 pub mod Beginning
-pub mod Listed

@@ -3,7 +3,7 @@ ghost use Rattle.std.specs.List.Sorted.{IsStrictlySortedBy};
 ghost use Rattle.lps_terms.specs.Order.{atom_cmp};
 ghost use Rattle.lps_terms.specs.declared.atom.Atom.{Atom};
 ghost use Rattle.lps_facts.specs.Matching.{IsInstance};
-ghost use Rattle.lps_facts.specs.Listed.{listed};
+ghost use Rattle.lps_terms.specs.Printed.{listed_from};
 ghost use Rattle.lps_facts.specs.Facts.{back_to, is_among, members, then_change, will_change, with_effects, with_fact, with_facts, IsLater};
 
 use crate::change::Change;
@@ -203,7 +203,7 @@ impl Facts {
 
     /// Appends the texts of all facts, in order: the first behind a space, and each later one behind a comma and a space.
     pub fn print(&self, out: &mut Vec<u8>) -> Result<(), AllocError>
-        ensures { OnOk result (out.new.items ≡ out.old.items ++ listed false (members self.now)) }
+        ensures { OnOk result (out.new.items ≡ out.old.items ++ listed_from false (members self.now)) }
     {
         print_present(&self.entries, out)
     }

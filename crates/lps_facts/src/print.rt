@@ -1,6 +1,5 @@
 ghost use Rattle.std.specs.Prelude.{◌≡◌, ◌++◌, [], false, ◌||◌, IfOk, OnOk, cond};
-ghost use Rattle.lps_terms.specs.Printed.{atom_text};
-ghost use Rattle.lps_facts.specs.Listed.{lead, listed};
+ghost use Rattle.lps_terms.specs.Printed.{atom_text, before_atom, listed_from};
 ghost use Rattle.lps_facts.specs.Trail.{present};
 
 use lps_terms::{Atom, print_atom};
@@ -8,7 +7,7 @@ use std::alloc::AllocError;
 use std::collections::BTreeMap;
 
 fn print_fact(later: bool, fact: &Atom, out: &mut Vec<u8>) -> Result<(), AllocError>
-    ensures { OnOk result (out.new.items ≡ out.old.items ++ (lead later ++ atom_text fact.now)) }
+    ensures { OnOk result (out.new.items ≡ out.old.items ++ (before_atom later ++ atom_text fact.now)) }
 {
     let lead = if later {
         b", ".as_slice()
@@ -22,7 +21,7 @@ fn print_fact(later: bool, fact: &Atom, out: &mut Vec<u8>) -> Result<(), AllocEr
 /// Appends the text of a fact that is present, and says whether a fact stands there now.
 fn print_entry(later: bool, fact: &Atom, here: bool, out: &mut Vec<u8>) -> Result<bool, AllocError>
     ensures later { IfOk result (λ now. now ≡ (later || here)) }
-    ensures printed { OnOk result (out.new.items ≡ out.old.items ++ cond here (lead later ++ atom_text fact.now) []) }
+    ensures printed { OnOk result (out.new.items ≡ out.old.items ++ cond here (before_atom later ++ atom_text fact.now) []) }
 {
     if here {
         print_fact(later, fact, out)?;
@@ -37,7 +36,7 @@ pub(crate) fn print_present(
     entries: &BTreeMap<Atom, bool>,
     out: &mut Vec<u8>,
 ) -> Result<(), AllocError>
-    ensures { OnOk result (out.new.items ≡ out.old.items ++ listed false (present entries.now.entries)) }
+    ensures { OnOk result (out.new.items ≡ out.old.items ++ listed_from false (present entries.now.entries)) }
 {
     let mut later = false;
     for (fact, here) in entries.iter() {

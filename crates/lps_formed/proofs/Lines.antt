@@ -22,7 +22,7 @@ use Rattle.lps_numbering.proofs.Alike.{on_refl}
 use Rattle.lps_build.specs.Meaning.{args_of, atom_of, call_of, events_of, leaf_of, line_of, minus, more_events_of, term_of, terms_of}
 use Rattle.lps_model.specs.declared.batch.Batch.{Batch}
 use Rattle.lps_derivation.specs.Ground.{is_ground, is_ground-App, is_ground-Int, is_ground-Sym}
-use Rattle.lps_model.specs.Formed.{is_word}
+use Rattle.lps_terms.specs.Integers.{is_i64}
 use Rattle.lps_batches.specs.Lines.{IsBatchLine}
 use Rattle.lps_formed.proofs.Along.{IsFormedTok, tok_formed}
 
@@ -58,7 +58,7 @@ proper_toks bytes (token ∷ tokens) all =
 abbrev Passes : Bool → List Tok → Type 0
 Passes test rest = (test ≡ true) × AreProper rest
 
-minus_in_range : (n : ℕ) → nat_le n (2 ^ 63) ≡ true → is_word (minus n) ≡ true
+minus_in_range : (n : ℕ) → nat_le n (2 ^ 63) ≡ true → is_i64 (minus n) ≡ true
 minus_in_range zero small = refl
 minus_in_range (suc n) small = lt-ltb n (2 ^ 63) (leb-true (suc n) (2 ^ 63) small)
 

@@ -18,12 +18,13 @@ use Rattle.lps_grammar.specs.Expressions as ge
 use Rattle.lps_grammar.specs.Items as gi
 use Rattle.lps_grammar.specs.Statements as gs
 use Rattle.lps_build.specs.Meaning.{alternatives_of, args_of, atom_of, atoms_of, body_of, call_of, cond_of, conditions_of, conds_of, decl_of, decls_of, expr_of, factors_of, item_of, items_of, kind_of, leaf_of, lit_of, minus, mode_list_of, moded_of, modeds_of, modes_of, more_modes_of, op_of, placed, prod_of, seq_of, shift_of, signed, summands_of, term_of, terms_of, unit_of, built_of}
-use Rattle.lps_model.specs.Formed.{fits_modes, has_modes, is_formed-App, is_formed-Apply, is_formed-Int, is_formed-Leaf, is_formed-Sym, is_formed-Var, is_formed_atom, is_formed_body, is_formed_built, is_formed_cond, is_formed_decl, is_formed_expr, is_formed_item, is_formed_term, is_no_constraint, is_shift, is_star, is_word, stars_once}
+use Rattle.lps_model.specs.Formed.{fits_modes, has_modes, is_formed-App, is_formed-Apply, is_formed-Int, is_formed-Leaf, is_formed-Sym, is_formed-Var, is_formed_atom, is_formed_body, is_formed_built, is_formed_cond, is_formed_decl, is_formed_expr, is_formed_item, is_formed_term, is_no_constraint, is_shift, is_star, stars_once}
+use Rattle.lps_terms.specs.Integers.{is_i64}
 use Rattle.lps_formed.proofs.Along.{is_dot, IsFormedTok}
 
 -- ---- numbers, constraints and modes, which the trees bound by themselves
 
-minus_word : (n : ℕ) → nat_le n (2 ^ 63) ≡ true → is_word (minus n) ≡ true
+minus_word : (n : ℕ) → nat_le n (2 ^ 63) ≡ true → is_i64 (minus n) ≡ true
 minus_word zero small = refl
 minus_word (suc n) small = lt-ltb n (2 ^ 63) (leb-true (suc n) (2 ^ 63) small)
 

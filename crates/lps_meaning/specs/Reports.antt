@@ -8,11 +8,11 @@ use Rattle.lps_terms.specs.declared.atom.Atom.{Atom}
 use Rattle.lps_terms.specs.declared.text.Text.{Text}
 use Rattle.lps_terms.specs.Order.{atom_cmp}
 use Rattle.lps_terms.specs.Names.{is_proper_name}
-use Rattle.lps_terms.specs.Printed.{printed, separated, atom_text}
+use Rattle.lps_terms.specs.Printed.{printed, separated, atom_text, listed_from}
 use Rattle.lps_model.specs.declared.cycle.Cycle.{Cycle}
 use Rattle.lps_model.specs.declared.cycle.Pick.{Pick}
 use Rattle.lps_model.specs.declared.trace.Trace.{Trace}
-use Rattle.lps_model.specs.Report.{verdict_lines, listed_from}
+use Rattle.lps_model.specs.Report.{verdict_lines}
 use Rattle.lps_model.specs.Trace.{cycle_at}
 use Rattle.lps_derivation.specs.Ground.{is_ground}
 use Rattle.lps_meaning.specs.declared.goal.Closed.{Closed}

@@ -1,6 +1,6 @@
 -- Which texts are formed as a reader gives them, in what the order of the language's rules never asks: names, numbers of
 -- arguments, of variables and of times, constants of constraints, and modes.
-use Rattle.std.specs.Prelude.{ℕ, ℤ, pos, negsuc, Bool, true, false, not, ◌^◌, ◌≡◌, ◌&&◌, ◌==◌, nat_lt, nat_le, List, [], ◌∷◌, length, map}
+use Rattle.std.specs.Prelude.{ℕ, ℤ, pos, negsuc, Bool, true, false, not, ◌≡◌, ◌&&◌, ◌==◌, nat_lt, nat_le, List, [], ◌∷◌, length, map}
 use Rattle.std.specs.List.{list_all}
 use Rattle.std.proofs.Common.{◌∙◌, sym, ap}
 use Rattle.std.proofs.lemmas.List.{length-map}
@@ -31,18 +31,14 @@ use Rattle.lps_terms.specs.declared.term.Term.TheOpen.{Term-F}
 use Rattle.lps_terms.specs.declared.term.Term.TheFolds.{fold-Term}
 use Rattle.lps_terms.specs.declared.text.Text.{Text}
 use Rattle.lps_terms.specs.Forms.{fold-Int, fold-Sym, fold-App, fold-Var}
+use Rattle.lps_terms.specs.Integers.{is_i64}
 use Rattle.lps_terms.specs.Names.{is_proper_name}
 
 -- ---- terms and expressions
 
--- an integer of 64 bits
-abbrev pub is_word : ℤ → Bool
-is_word (pos n) = nat_lt n (2 ^ 63)
-is_word (negsuc n) = nat_lt n (2 ^ 63)
-
 -- whether one form is well-formed, where there are so many variables, with whether each argument is in its place
 abbrev pub formed_step : ℕ → Term-F Bool → Bool
-formed_step variables (Term-F.Int z) = is_word z
+formed_step variables (Term-F.Int z) = is_i64 z
 formed_step variables (Term-F.Sym name) = is_proper_name name
 formed_step variables (Term-F.App name args) = is_proper_name name && nat_lt 0 (length args) && nat_le (length args) 64 && list_all (λ arg. arg) args
 formed_step variables (Term-F.Var v) = nat_lt v variables
@@ -62,7 +58,7 @@ abbrev pub is_formed_expr : ℕ → Expr → Bool
 is_formed_expr variables = fold-Expr Bool (formed_expr_step variables)
 
 module _ (variables : ℕ) where
-  pub is_formed-Int : (z : ℤ) → is_formed_term variables (t.Int z) ≡ is_word z
+  pub is_formed-Int : (z : ℤ) → is_formed_term variables (t.Int z) ≡ is_i64 z
   is_formed-Int = fold-Int Bool (formed_step variables)
 
   pub is_formed-Sym : (n : List ℕ) → is_formed_term variables (t.Sym n) ≡ is_proper_name n

@@ -2,11 +2,8 @@
 use Rattle.std.proofs.Common.{ℕ, ◌≡◌, Bool, true, false, List, [], ◌∷◌, ◌++◌, refl, sym, ap, ◌∙◌, append_assoc, map}
 use Rattle.std.specs.Prelude.{codes, IsTrue, not, ◌↔◌}
 use Rattle.std.specs.Fmt.{decimal}
-use Rattle.lps_terms.specs.declared.atom.Atom.{Atom}
 use Rattle.lps_terms.specs.declared.term.Term.{Term}
-use Rattle.lps_terms.specs.Printed.{atom_text, led, printed, separated}
-use Rattle.lps_model.specs.Report.{before_atom, listed_from}
-use Rattle.lps_facts.specs.Listed as facts
+use Rattle.lps_terms.specs.Printed.{led, printed, separated}
 use Rattle.lps_meaning.specs.Reports.{with_values}
 use Rattle.lps_report.specs.Listed.{led_from}
 
@@ -44,17 +41,6 @@ key_values (value ∷ values) times false none =
     append_assoc first (printed value ++ rest) more
     ∙ ap (λ (bs : List ℕ). first ++ bs) (append_assoc (printed value) rest more ∙ ap (λ (bs : List ℕ). printed value ++ bs) (sym (later_of_both first (map printed values) (map decimal times))))
     ∙ are_values (map printed (value ∷ values) ++ map decimal times)
-
--- ---- the state
-
-same_lead : (later : Bool) → facts.lead later ≡ before_atom later
-same_lead true = refl
-same_lead false = refl
-
--- facts are listed as a set of facts prints them
-pub same_listed : (later : Bool) (atoms : List Atom) → facts.listed later atoms ≡ listed_from later atoms
-same_listed later [] = refl
-same_listed later (atom ∷ atoms) = λ i. same_lead later i ++ atom_text atom ++ same_listed true atoms i
 
 -- ---- one piece behind the other
 

@@ -1,7 +1,7 @@
 ghost use Rattle.std.specs.Prelude.{◌≡◌, ◌++◌, codes, false, OnOk};
 ghost use Rattle.std.specs.Fmt.{decimal};
 ghost use Rattle.lps_facts.specs.Facts.{members};
-ghost use Rattle.lps_model.specs.Report.{listed_from};
+ghost use Rattle.lps_terms.specs.Printed.{listed_from};
 ghost use Rattle.lps_meaning.specs.Reports.{block_text};
 
 use crate::goals::{print_closed, print_created};
@@ -38,7 +38,6 @@ fn print_head(number: u64, out: &mut Vec<u8>) -> Result<(), AllocError>
 }
 
 /// Appends the line of a state.
-#[tactic(auto, using(crate::proofs::Pieces::same_listed))]
 fn print_state(facts: &Facts, out: &mut Vec<u8>) -> Result<(), AllocError>
     ensures { OnOk result (out.new.items ≡ out.old.items ++ (codes "state" ++ listed_from false (members facts.now) ++ codes "\n")) }
 {

@@ -8,9 +8,8 @@ use Rattle.std.proofs.lemmas.List.{length-map}
 use Rattle.lps_terms.specs.declared.atom.Atom.{Atom}
 use Rattle.lps_terms.specs.declared.term.Term.{Term}
 use Rattle.lps_terms.specs.declared.text.Text.{Text}
-use Rattle.lps_terms.specs.Printed.{atom_text, led, printed}
+use Rattle.lps_terms.specs.Printed.{atom_text, led, listed_from, printed}
 use Rattle.lps_model.specs.declared.trace.Trace.{Trace}
-use Rattle.lps_model.specs.Report.{listed_from}
 use Rattle.lps_model.proofs.Elements.{first_is_contained, later_is_contained}
 use Rattle.lps_meaning.specs.declared.goal.Closed.{Closed}
 use Rattle.lps_meaning.specs.declared.goal.Closed.TheVariants as c

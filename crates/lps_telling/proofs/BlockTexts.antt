@@ -5,13 +5,13 @@ use Rattle.std.specs.Fmt.{decimal}
 use Rattle.std.specs.List.{AllByRecursion, flat_map}
 use Rattle.lps_terms.specs.declared.atom.Atom.{Atom}
 use Rattle.lps_terms.specs.declared.text.Text.{Text}
-use Rattle.lps_terms.specs.Printed.{atom_text}
+use Rattle.lps_terms.specs.Printed.{atom_text, listed_from}
 use Rattle.lps_model.specs.declared.cycle.Cycle.{Cycle}
 use Rattle.lps_model.specs.declared.cycle.Pick.{Pick}
 use Rattle.lps_model.specs.declared.trace.Trace.{Trace}
 use Rattle.lps_model.specs.declared.verdict.Verdict.{Verdict}
 use Rattle.lps_model.specs.declared.verdict.Verdict.TheVariants.{Admitted, Rejected}
-use Rattle.lps_model.specs.Report.{verdict_line, verdict_lines, listed_from}
+use Rattle.lps_model.specs.Report.{verdict_line, verdict_lines}
 use Rattle.lps_model.specs.Trace.{cycle_at, cycle_or_none, then_cycle, if_admitted}
 use Rattle.lps_meaning.specs.Cycles.{AreJudged, AreLegal, IsRun}
 use Rattle.lps_meaning.specs.Reports.{Block, block_text, closed_line, goal_line, IsBlock, IsGroundAtom, listed, pick_line}

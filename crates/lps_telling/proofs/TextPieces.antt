@@ -9,7 +9,7 @@ use Rattle.std.proofs.lemmas.Bool.Decides.{nat_tests}
 use Rattle.std.proofs.lemmas.Fmt.{decimal_nonempty, decimal_injective, digits_decimal}
 use Rattle.std.proofs.lemmas.Str.Parse.{FoldsDigits, IsDigitsTest, IsNumeralModel, numerals_by_fold}
 use Rattle.lps_terms.specs.Names.{begins_low, is_lower_byte, is_proper_name, is_word_byte}
-use Rattle.lps_model.specs.Formed.{is_word}
+use Rattle.lps_terms.specs.Integers.{is_i64}
 use Rattle.lps_meaning.proofs.Lists.{both}
 
 -- ---- lists
@@ -108,7 +108,7 @@ minus_is_no_digit : (n : ℕ) (rest after : List ℕ) → n < 2 ^ 64 → decimal
 minus_is_no_digit n rest after small e =
     not_both is_ascii_digit (decimal n ++ rest) (45 ∷ after) (begins_front is_ascii_digit (decimal n) rest (digit_first n small)) refl e
 
-pub same_integer : (y z : ℤ) (rest after : List ℕ) → is_word y ≡ true → is_word z ≡ true → Stops is_ascii_digit rest → Stops is_ascii_digit after →
+pub same_integer : (y z : ℤ) (rest after : List ℕ) → is_i64 y ≡ true → is_i64 z ≡ true → Stops is_ascii_digit rest → Stops is_ascii_digit after →
     signed_decimal y ++ rest ≡ signed_decimal z ++ after → (y ≡ z) × (rest ≡ after)
 same_integer (pos m) (pos n) rest after small low stops ends e =
     let lt = in_range m small in let lt' = in_range n low in
@@ -123,7 +123,7 @@ begins_or : (f g : ℕ → Bool) (xs : List ℕ) → Begins f xs → Begins (λ 
 begins_or f g [] begins = absurd begins
 begins_or f g (x ∷ xs) begins = ap (λ b. b || g x) begins
 
-pub integer_first : (z : ℤ) → is_word z ≡ true → Begins is_sign_byte (signed_decimal z)
+pub integer_first : (z : ℤ) → is_i64 z ≡ true → Begins is_sign_byte (signed_decimal z)
 integer_first (pos n) small = let lt = in_range n small in begins_or is_ascii_digit (λ byte. byte == 45) (decimal n) (digit_first n (omega (arith, lt)))
 integer_first (negsuc n) small = refl
 
@@ -154,7 +154,7 @@ stops_no_sign [] begins = absurd begins
 stops_no_sign (x ∷ xs) begins = low_no_sign x begins
 
 -- no integer begins as a name
-pub integer_is_no_name : (z : ℤ) (n rest after : List ℕ) → is_word z ≡ true → is_proper_name n ≡ true → signed_decimal z ++ rest ≡ n ++ after → ⊥
+pub integer_is_no_name : (z : ℤ) (n rest after : List ℕ) → is_i64 z ≡ true → is_proper_name n ≡ true → signed_decimal z ++ rest ≡ n ++ after → ⊥
 integer_is_no_name z n rest after small proper e =
     not_both is_sign_byte (signed_decimal z ++ rest) (n ++ after) (begins_front is_sign_byte (signed_decimal z) rest (integer_first z small))
     (stops_no_sign (n ++ after) (begins_front is_lower_byte n after (name_first n proper))) e

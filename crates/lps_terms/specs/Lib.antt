@@ -1,3 +1,4 @@
+pub mod Integers
 pub mod Names
 pub mod NameLaws
 pub mod Forms

@@ -1,5 +1,5 @@
 -- The text of a term and of an atom: `f(a, b)`, integers in decimal, a variable as `V` and its number.
-use Rattle.std.specs.Prelude.{ℕ, ℤ, ◌≡◌, List, [], ◌∷◌, ◌++◌, map, codes, ◌==◌, if◌then◌else◌}
+use Rattle.std.specs.Prelude.{ℕ, ℤ, ◌≡◌, Bool, true, false, List, [], ◌∷◌, ◌++◌, map, codes, ◌==◌, if◌then◌else◌}
 use Rattle.std.specs.Fmt.{decimal, signed_decimal}
 use Rattle.std.proofs.Common.{ap}
 use Rattle.lps_terms.specs.declared.atom.Atom.{Atom}
@@ -46,6 +46,16 @@ applied_text name (x ∷ xs) = call_text name (map printed (x ∷ xs))
 -- the text of an atom
 abbrev pub atom_text : Atom → List ℕ
 atom_text a = applied_text a.name a.args
+
+-- what stands before an atom of a list: a space before the first, and a comma and a space before a later one
+abbrev pub before_atom : Bool → List ℕ
+before_atom false = codes " "
+before_atom true = codes ", "
+
+-- atoms one after the other; `later` says that one stands before them
+abbrev pub listed_from : Bool → List Atom → List ℕ
+listed_from later [] = []
+listed_from later (atom ∷ atoms) = before_atom later ++ atom_text atom ++ listed_from true atoms
 
 -- an atom without arguments is its name
 pub atom_text-name : (a : Atom) → a.args ≡ [] → atom_text a ≡ a.name

@@ -9,6 +9,7 @@
 //!
 //! | file of `specs/` | defines |
 //! |---|---|
+//! | `Integers` | which integers are an `i64` |
 //! | `Names`, `NameLaws` | which bytes are a name, and which are one that a text may give |
 //! | `Symbols` | how many symbols a term or an atom has |
 //! | `Order`, `OrderLaws` | the order of names, terms and atoms, whether they are equal, and the laws of both |

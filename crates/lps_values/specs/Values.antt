@@ -1,5 +1,5 @@
 -- The value of an expression: the integer that it stands for, where it has one.
-use Rattle.std.specs.Prelude.{ℤ, pos, negsuc, zero, suc, ◌^◌, nat_lt, Bool, Option, Some, None, if◌then◌else◌, ◌≡◌, ◌+ℤ◌, ◌-ℤ◌, ◌*ℤ◌}
+use Rattle.std.specs.Prelude.{ℤ, pos, negsuc, zero, suc, Option, Some, None, if◌then◌else◌, ◌≡◌, ◌+ℤ◌, ◌-ℤ◌, ◌*ℤ◌}
 use Rattle.std.proofs.Common.{◌∙◌, sym, ap}
 use Rattle.lps_terms.specs.declared.op.Op.{Op}
 use Rattle.lps_terms.specs.declared.op.Op.TheVariants.{Add, Sub, Mul, Div, Mod}
@@ -9,12 +9,8 @@ use Rattle.lps_terms.specs.declared.expr.Expr.{Expr}
 use Rattle.lps_terms.specs.declared.expr.Expr.TheVariants as e
 use Rattle.lps_terms.specs.declared.expr.Expr.TheOpen.{Expr-F}
 use Rattle.lps_terms.specs.declared.expr.Expr.TheFolds.{fold-Expr, fold-roll-Expr}
+use Rattle.lps_terms.specs.Integers.{is_i64}
 use Rattle.lps_values.specs.Division.{quotient, remainder}
-
--- whether an integer is an `i64`
-abbrev pub is_i64 : ℤ → Bool
-is_i64 (pos n) = nat_lt n (2 ^ 63)
-is_i64 (negsuc n) = nat_lt n (2 ^ 63)
 
 -- an integer, where it is an `i64`
 abbrev pub in_i64 : ℤ → Option ℤ

@@ -3,7 +3,8 @@ use Rattle.std.specs.Prelude.{codes}
 use Rattle.std.specs.Fmt.{decimal}
 use Rattle.std.specs.List.{flat_map}
 use Rattle.std.proofs.lemmas.Result.{on_ok_weaker}
-use Rattle.lps_model.specs.Report.{listed_from, verdict_lines}
+use Rattle.lps_terms.specs.Printed.{listed_from}
+use Rattle.lps_model.specs.Report.{verdict_lines}
 use Rattle.lps_facts.specs.Facts.{members}
 use Rattle.lps_meaning.specs.Reports.{block_text, closed_line, goal_line, pick_line}
 use Rattle.lps_report.proofs.Pieces.{block_pieces}

@@ -1,0 +1,7 @@
+-- Which integers a machine word holds.
+use Rattle.std.specs.Prelude.{ℤ, pos, negsuc, Bool, ◌^◌, nat_lt}
+
+-- whether an integer is an `i64`
+abbrev pub is_i64 : ℤ → Bool
+is_i64 (pos n) = nat_lt n (2 ^ 63)
+is_i64 (negsuc n) = nat_lt n (2 ^ 63)
