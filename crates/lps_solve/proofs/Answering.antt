@@ -25,7 +25,7 @@ use Rattle.lps_derivation.specs.Levels.{AreLevels}
 use Rattle.lps_unify.specs.Bindings.{TrailedBindings, standing, count_of, IsLawful}
 use Rattle.lps_unify.specs.Unified.{AreWithin}
 use Rattle.lps_unify.proofs.Keeping.{append_none}
-use Rattle.lps_solve.specs.Answers.{AreLarge, IsAnswer, variables_left, with_vars}
+use Rattle.lps_solve.specs.Answers.{AreLarge, IsAnswer, IsInstanceFor, variables_left, with_vars}
 use Rattle.lps_solve.specs.Found.{GainsBy, Reaches}
 use Rattle.lps_solve.specs.Met.{AreMet, IsMetCond}
 use Rattle.lps_solve.specs.Placed.{AreBelow, values_in}
@@ -104,32 +104,43 @@ values_at : (s : ℕ → Term) (vars : List ℕ) → map (put s) (map (λ v. t.V
 values_at s [] = refl
 values_at s (v ∷ vars) = λ i. put-Var s v i ∷ values_at s vars i
 
-module _ (program : List Clause) (facts : List Atom) (most : ℕ) (b : TrailedBindings) (conds : List Cond) (wanted : List Term) (e : wanted ≡ map (λ v. t.Var v) (variables_left b conds)) (found : List (List Term))
-    (g : GainsBy program [] found (λ level. Reaches program facts level most most b 0 conds wanted)) (level : List ℕ → ℕ) (levels : AreLevels program level) where
-  to_answer : (x : List Term) → Reaches program facts level most most b 0 conds wanted x → IsAnswer program facts level b conds x
+module _ (program : List Clause) (facts : List Atom) (most room : ℕ) (b : TrailedBindings) (conds : List Cond) (wanted : List Term) (found : List (List Term)) (g : GainsBy program [] found (λ level. Reaches program facts level most room b 0 conds wanted))
+    (level : List ℕ → ℕ) (levels : AreLevels program level) where
+  to_instance : (x : List Term) → Reaches program facts level most room b 0 conds wanted x → IsInstanceFor program facts level most room b conds wanted x
+  to_instance x h = record { values = h.values; solve = h.solve; met = subst (λ (f : ℕ → Term). AreMet program facts level f conds) (from_zero h.values) h.met; is = h.is; fits = h.fits }
+
+  from_instance : (x : List Term) → IsInstanceFor program facts level most room b conds wanted x → Reaches program facts level most room b 0 conds wanted x
+  from_instance x h = record { values = h.values; solve = h.solve; met = subst (λ (f : ℕ → Term). AreMet program facts level f conds) (sym (from_zero h.values)) h.met; is = h.is; fits = h.fits }
+
+  pub reached : (x : List Term) → Contains found x ↔ IsInstanceFor program facts level most room b conds wanted x
+  reached x = (
+    λ h. elim ((g level levels x).0 h) [ inl none ↦ absurd (nothing_contained x none) | inr one ↦ to_instance x one ],
+    λ h. (g level levels x).1 (inr (from_instance x h)),
+  )
+
+module _ (program : List Clause) (facts : List Atom) (level : List ℕ → ℕ) (most : ℕ) (b : TrailedBindings) (conds : List Cond) (wanted : List Term) (e : wanted ≡ map (λ v. t.Var v) (variables_left b conds)) where
+  to_answer : (x : List Term) → IsInstanceFor program facts level most most b conds wanted x → IsAnswer program facts level b conds x
   to_answer x h = record {
     values = h.values;
     solve = h.solve;
-    met = subst (λ (f : ℕ → Term). AreMet program facts level f conds) (from_zero h.values) h.met;
+    met = h.met;
     is = h.is ∙ ap (map (put h.values)) e ∙ values_at h.values (variables_left b conds);
     ground = h.fits.ground;
     small = h.fits.each;
   }
 
-  from_answer : (x : List Term) → IsAnswer program facts level b conds x → Reaches program facts level most most b 0 conds wanted x
+  from_answer : (x : List Term) → IsAnswer program facts level b conds x → IsInstanceFor program facts level most most b conds wanted x
   from_answer x h = record {
     values = h.values;
     solve = h.solve;
-    met = subst (λ (f : ℕ → Term). AreMet program facts level f conds) (sym (from_zero h.values)) h.met;
+    met = h.met;
     is = h.is ∙ sym (ap (map (put h.values)) e ∙ values_at h.values (variables_left b conds));
     fits = record { ground = h.ground; each = h.small; all = omega arith };
   }
 
-  pub answered : (x : List Term) → Contains found x ↔ IsAnswer program facts level b conds x
-  answered x = (
-    λ h. elim ((g level levels x).0 h) [ inl none ↦ absurd (nothing_contained x none) | inr one ↦ to_answer x one ],
-    λ h. (g level levels x).1 (inr (from_answer x h)),
-  )
+  -- the instances of the variables that are left are the answers
+  pub answered : (found : List (List Term)) (x : List Term) → Contains found x ↔ IsInstanceFor program facts level most most b conds wanted x → Contains found x ↔ IsAnswer program facts level b conds x
+  answered found x are = (λ h. to_answer x (are.0 h), λ h. are.1 (from_answer x h))
 
 met_at : (program : List Clause) (facts : List Atom) (level : List ℕ → ℕ) (s : ℕ → Term) (conds : List Cond) (k : Cond) → AreMet program facts level s conds → Contains conds k → IsMetCond program facts level (put_cond s k)
 met_at program facts level s [] k h among = absurd (nothing_contained k among)

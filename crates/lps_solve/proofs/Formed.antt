@@ -1,6 +1,6 @@
 -- The clauses of a well-formed text are ground once ground terms are put in for their variables.
-use Rattle.std.proofs.Common.{ℕ, ℤ, Bool, true, false, ◌≡◌, List, [], ◌∷◌, map, length, refl, sym, ap, ◌∙◌}
-use Rattle.std.specs.Prelude.{◌&&◌, IsTrue, pos, negsuc, nat_lt, nat_le}
+use Rattle.std.proofs.Common.{ℕ, Bool, true, false, ◌≡◌, List, [], ◌∷◌, map, length, refl, sym, ap, ◌∙◌}
+use Rattle.std.specs.Prelude.{◌&&◌, IsTrue, nat_lt, nat_le}
 use Rattle.std.specs.List.{AllByRecursion, list_all}
 use Rattle.std.proofs.lemmas.List.{length-map}
 use Rattle.lps_terms.specs.declared.atom.Atom.{Atom}
@@ -14,7 +14,7 @@ use Rattle.lps_terms.specs.declared.term.Term.TheVariants as t
 use Rattle.lps_terms.specs.Forms.{term_ind}
 use Rattle.lps_terms.specs.Names.{is_proper_name}
 use Rattle.lps_terms.specs.Put.{put, put-Int, put-Sym, put-App, put-Var}
-use Rattle.lps_model.specs.Formed.{is_word, is_formed_term, is_formed_expr, is_formed_atom, is_formed_built, is_formed_cond, is_formed-Int, is_formed-Sym, is_formed-App, is_formed-Leaf, is_formed-Apply}
+use Rattle.lps_model.specs.Formed.{is_formed_term, is_formed_expr, is_formed_atom, is_formed_built, is_formed_cond, is_formed-Int, is_formed-Sym, is_formed-App, is_formed-Leaf, is_formed-Apply}
 use Rattle.lps_derivation.specs.Expressions.{put_expr, put_expr-Leaf, put_expr-Apply, expr_ind}
 use Rattle.lps_derivation.specs.Ground.{is_ground, is_ground-Int, is_ground-Sym, is_ground-App}
 use Rattle.lps_derivation.specs.Instances.{put_built, put_cond}
@@ -25,10 +25,6 @@ use Rattle.lps_solve.proofs.Grounds.{second_of, first_of_two, ground_leaf, groun
 both_true : (p q : Bool) → p ≡ true → q ≡ true → (p && q) ≡ true
 both_true true q h k = k
 both_true false q h k = absurd (cc)
-
-in_range : (z : ℤ) → is_word z ≡ true → is_word z ≡ true
-in_range (pos n) h = h
-in_range (negsuc n) h = h
 
 module _ (n : ℕ) (s : ℕ → Term) (ground : (v : ℕ) → IsTrue (is_ground (s v))) where
   abbrev IsPutGround : Term → Type 0
@@ -53,7 +49,7 @@ module _ (n : ℕ) (s : ℕ → Term) (ground : (v : ℕ) → IsTrue (is_ground 
 
   term_is_ground : (x : Term) → IsPutGround x
   term_is_ground = term_ind IsPutGround
-      (λ z h. ap is_ground (put-Int s z) ∙ is_ground-Int z ∙ in_range z (sym (is_formed-Int n z) ∙ h))
+      (λ z h. ap is_ground (put-Int s z) ∙ is_ground-Int z ∙ sym (is_formed-Int n z) ∙ h)
       (λ name h. ap is_ground (put-Sym s name) ∙ is_ground-Sym name ∙ (sym (is_formed-Sym n name) ∙ h))
       application
       (λ v h. ap is_ground (put-Var s v) ∙ ground v)

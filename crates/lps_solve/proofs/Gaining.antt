@@ -6,11 +6,12 @@ use Rattle.std.specs.declared.cmp.Ordering.TheVariants.{Less, Equal, Greater}
 use Rattle.std.specs.BTreeSet.{insert_key}
 use Rattle.std.specs.Cmp.Lexicographic.{slice_cmp}
 use Rattle.std.specs.FinMap.{slice_cmp-IsAntisymmetric}
-use Rattle.std.proofs.lemmas.List.Elements.{Contains-push, Contains-push_cases, Contains-append_left}
+use Rattle.std.proofs.lemmas.List.Elements.{Contains-push, Contains-push_cases, Contains-append_left, Contains-append_right, Contains-append_cases}
 use Rattle.lps_terms.specs.declared.term.Term.{Term}
 use Rattle.lps_terms.specs.Order.{term_cmp}
 use Rattle.lps_terms.specs.OrderLaws.{term_cmp-IsAntisymmetric}
 use Rattle.lps_model.proofs.Elements.{first_or_later, first_is_contained, later_is_contained, nothing_contained}
+pub use Rattle.lps_solve.specs.Found.{ByOne}
 use Rattle.lps_solve.specs.Found.{Gains}
 
 pub Gains-none : (xs : List (List Term)) (P : List Term → Type 0) → ((x : List Term) → P x → ⊥) → Gains xs xs P
@@ -42,9 +43,7 @@ default_free [] i d e h = absurd (omega arith)
 default_free (x ∷ xs) zero d e h = refl
 default_free (x ∷ xs) (suc i) d e h = default_free xs i d e (omega arith)
 
--- what some element of a list gives
-abbrev pub ByOne : {X : Type 0} → List X → (X → List Term → Type 0) → List Term → Type 0
-ByOne {X} ys R x = (y : X) × Contains ys y × R y x
+-- ---- what some element of a list gives
 
 pub ByOne-none : {X : Type 0} (ys : List X) (R : X → List Term → Type 0) (xs : List (List Term)) → Gains xs xs (ByOne (take 0 ys) R)
 ByOne-none ys R xs = Gains-none xs (ByOne (take 0 ys) R) (λ x h. absurd (nothing_contained h.0 h.1))
@@ -66,6 +65,22 @@ ByOne-more i ys y R us bs cs lt is g h =
         ]
       ],
     )
+
+-- what some element of the one list gives, and then of the other
+pub ByOne-both : {X : Type 0} (xs ys : List X) (R : X → List Term → Type 0) (us bs cs : List (List Term)) → Gains us bs (ByOne xs R) → Gains bs cs (ByOne ys R) → Gains us cs (ByOne (xs ++ ys) R)
+ByOne-both xs ys R us bs cs g h = λ x. (
+  λ inside. elim ((h x).0 inside) [
+    | inl b ↦ elim ((g x).0 b) [ inl a ↦ inl a | inr one ↦ inr (one.0, Contains-append_left xs ys one.0 one.1, one.2) ]
+    | inr one ↦ inr (one.0, Contains-append_right xs ys one.0 one.1, one.2)
+  ],
+  λ given. elim given [
+    | inl a ↦ (h x).1 (inl ((g x).1 (inl a)))
+    | inr one ↦ elim (Contains-append_cases xs ys one.0 one.1) [
+      | inl left ↦ (h x).1 (inl ((g x).1 (inr (one.0, left, one.2))))
+      | inr right ↦ (h x).1 (inr (one.0, right, one.2))
+    ]
+  ],
+)
 
 pub ByOne-all : {X : Type 0} (i : ℕ) (ys : List X) (R : X → List Term → Type 0) (us bs : List (List Term)) → length ys ≤ i → Gains us bs (ByOne (take i ys) R) → Gains us bs (ByOne ys R)
 ByOne-all i ys R us bs le g = subst (λ zs. Gains us bs (ByOne zs R)) (take_whole i ys le) g

@@ -10,6 +10,7 @@ pub mod Collecting
 pub mod Results
 pub mod Collected
 pub mod Tables
+pub mod Matching
 pub mod Searching
 pub mod Conditions
 pub mod Facts

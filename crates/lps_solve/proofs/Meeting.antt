@@ -24,7 +24,7 @@ use Rattle.lps_model.specs.Clauses.{Clause}
 use Rattle.lps_derivation.specs.Derivation.{Agrees}
 use Rattle.lps_derivation.specs.Expressions.{put_expr, expr_symbols_of}
 use Rattle.lps_derivation.specs.Ground.{is_ground, is_ground-Int}
-use Rattle.lps_model.specs.Formed.{is_word}
+use Rattle.lps_terms.specs.Integers.{is_i64}
 use Rattle.lps_derivation.specs.Instances.{IsSmallBuilt, put_built, put_cond}
 use Rattle.lps_derivation.specs.Laws.{IsDerivedFrom}
 use Rattle.lps_derivation.specs.Levels.{AreLevels}
@@ -157,7 +157,7 @@ value_is (t.Sym n) z h = absurd (cc)
 value_is (App' n shape row) z h = absurd (cc)
 value_is (t.Var v) z h = absurd (cc)
 
-in_range : (z : ℤ) → FitsSigned w64 z → is_word z ≡ true
+in_range : (z : ℤ) → FitsSigned w64 z → is_i64 z ≡ true
 in_range (pos n) h = grind (arith, ints, nat_tests)
 in_range (negsuc n) h = grind (arith, ints, nat_tests)
 

@@ -31,9 +31,10 @@ use Rattle.lps_unify.proofs.Standings.{sound, solves_itself}
 use Rattle.lps_solve.specs.Answers.{variables_left}
 use Rattle.lps_solve.specs.declared.ways.Ways.{Ways}
 use Rattle.lps_solve.specs.Met.{AreGround, IsGroundCond, MeetsOn}
-use Rattle.lps_solve.specs.Moded.{AreModed, IsClosed, IsMarked, IsModedFor, IsModedRun, IsModedStep, IsReady, IsReadyCond, needs_of}
+use Rattle.lps_solve.specs.Moded.{AreModed, AreModedFor, IsClosed, IsMarked, IsModedFor, IsModedRun, IsModedStep, IsReady, IsReadyCond, needs_of}
 use Rattle.lps_solve.specs.Placed.{shift, values_in}
-use Rattle.lps_solve.specs.Table.{IsPlaceOf, clause_at}
+use Rattle.lps_solve.specs.Table.{IsPlaceFor, clause_at}
+use Rattle.lps_solve.proofs.Matching.{matching_named}
 use Rattle.lps_solve.proofs.Accepted.{is_stated}
 use Rattle.lps_solve.proofs.Answering.{from_zero, with_all}
 use Rattle.lps_solve.proofs.Closed.{IsClosedAt, closed_put, closed_put_args, closed_put_expr, closed_stays, cond_comes, no_left, no_right, put_closed}
@@ -274,6 +275,23 @@ asked_moded text b lawful conds wanted is moded = record {
       (left_closed b lawful s solves conds (subst (λ (at : ℕ → Term). AllByRecursion (IsClosedAt at) (flat_map cond_vars conds)) (from_zero s) rest)));
 }
 
+-- what is wanted is closed at the end
+pub wanted_moded : (text : Text) (b : TrailedBindings) (lawful : IsLawful b) (conds : List Cond) (wanted : List Term) → AreModedFor text b conds wanted → IsModedRun text b 0 conds wanted
+wanted_moded text b lawful conds wanted moded = record {
+  scope = moded.scope;
+  declared = moded.declared;
+  seen = moded.seen;
+  known = moded.known;
+  closed = λ s solves. subst (λ (at : ℕ → Term). AllByRecursion (IsClosedAt at) moded.known) (sym (from_zero s)) (starts s solves);
+  moded = wanted_nothing moded.scope (args_vars wanted) moded.known conds moded.moded;
+  ends = λ s solves rest. closed_put_args s wanted
+      (ends_known (IsClosedAt s) moded.scope (args_vars wanted) moded.known conds moded.moded (starts s solves)
+      (subst (λ (at : ℕ → Term). AllByRecursion (IsClosedAt at) (flat_map cond_vars conds)) (from_zero s) rest));
+}
+  where
+    starts : (s : ℕ → Term) → Solves s b → AllByRecursion (IsClosedAt s) moded.known
+    starts s solves = all_weaker (λ v. IsTrue (is_ground ((standing b).value v))) (IsClosedAt s) (ground_closed b lawful s solves) moded.known moded.ground
+
 -- ---- from call to call
 
 -- where the goal and the head are unified, their arguments have the same values
@@ -303,8 +321,8 @@ row_moded text b lawful base cond rest conds wanted split moded program facts le
     next_moded text b lawful base cond rest wanted (subst (λ (ks : List Cond). IsModedRun text b base ks wanted) split moded) terms row
     (λ s solves is. ((meets.met s solves).1 (subst (Contains ways.rows) (sym (ap (map (put s)) (sym same) ∙ is)) among)).ground)
 
-pub clause_among : (program : List Clause) (i : ℕ) (name : List ℕ) (clause : Clause) → clause ≡ clause_at program i → IsPlaceOf program name i → Contains program clause
-clause_among program i name clause is place = subst (Contains program) (sym is) (Contains-get_or program i (record { head = record { name = []; args = [] }; conds = [] }) place.0)
+pub clause_among : (program : List Clause) (i : ℕ) (goal : Atom) (clause : Clause) → clause ≡ clause_at program i → IsPlaceFor program goal i → Contains program clause
+clause_among program i goal clause is place = subst (Contains program) (sym is) (Contains-get_or program i (record { head = record { name = []; args = [] }; conds = [] }) place.0)
 
-pub clause_named : (program : List Clause) (i : ℕ) (name : List ℕ) (clause : Clause) → clause ≡ clause_at program i → IsPlaceOf program name i → clause.head.name ≡ name
-clause_named program i name clause is place = ap (λ (k : Clause). k.head.name) is ∙ place.1
+pub clause_named : (program : List Clause) (i : ℕ) (goal : Atom) (clause : Clause) → clause ≡ clause_at program i → IsPlaceFor program goal i → clause.head.name ≡ goal.name
+clause_named program i goal clause is place = ap (λ (k : Clause). k.head.name) is ∙ sym (matching_named goal (clause_at program i).head place.1)

@@ -1,5 +1,5 @@
 -- What each step of a search gains, by any levels.
-use Rattle.std.proofs.Common.{ℕ, Bool, true, false, ◌≡◌, ◌+◌, ◌≤◌, ◌<◌, ◌↔◌, List, [], ◌∷◌, map, take, length, get_or, refl, sym, ap, ◌∙◌, subst, arith}
+use Rattle.std.proofs.Common.{ℕ, Bool, true, false, ◌≡◌, ◌+◌, ◌≤◌, ◌<◌, ◌↔◌, List, [], ◌∷◌, ◌++◌, map, take, length, get_or, refl, sym, ap, ◌∙◌, subst, arith}
 use Rattle.std.specs.Prelude.{Result, OnOk, Contains}
 use Rattle.std.specs.List.{AllByRecursion}
 use Rattle.lps_terms.specs.declared.atom.Atom.{Atom}
@@ -15,9 +15,9 @@ use Rattle.lps_solve.specs.Answers.{IsSound}
 use Rattle.lps_solve.specs.Found.{ByClause, Finds, Gains, GainsBy, IsFactFor, IsResolvedRow, Reaches, ReachesBy}
 use Rattle.lps_solve.specs.Met.{AreGround, AreMet, MeetsBy}
 use Rattle.lps_solve.specs.Placed.{AreBelow, shift}
-use Rattle.lps_solve.specs.Table.{clause_at, clause_vars, IsPlaceOf}
+use Rattle.lps_solve.specs.Table.{clause_at, clause_vars, IsPlaceFor}
 use Rattle.lps_solve.proofs.Entering.{opened, opened_count, are_within_more, head_within, enter_gains, enter_none, enter_other, bound_gains, bound_none, bound_other}
-use Rattle.lps_solve.proofs.Gaining.{ByOne, ByOne-more, ByOne-all, ByOne-none, Gains-same}
+use Rattle.lps_solve.proofs.Gaining.{ByOne, ByOne-more, ByOne-all, ByOne-both, ByOne-none, Gains-same}
 use Rattle.lps_solve.proofs.Results.{OnOk-map}
 use Rattle.lps_solve.proofs.Truths.{found_all}
 use Rattle.lps_solve.proofs.Vars.{all_weaker}
@@ -125,12 +125,22 @@ module _ (program : List Clause) (facts : List Atom) (most : ℕ) where
     pub no_places : (places : List ℕ) (start : List (List Term)) → GainsBy program start start (λ level. ByOne (take 0 places) (λ p. ByClause program facts level most b (clause_at program p) goal))
     no_places places start = λ level levels. ByOne-none places (λ p. ByClause program facts level most b (clause_at program p) goal) start
 
-    pub solved : IsSound program facts → IsLawful b → map (put (standing b).value) goal.args ≡ goal.args → (places : List ℕ) → ((i : ℕ) → Contains places i ↔ IsPlaceOf program goal.name i) → 1023 < most →
-        (i : ℕ) → length places ≤ i → (first found : List (List Term)) → Gains [] first (IsFactFor facts goal) →
-        GainsBy program first found (λ level. ByOne (take i places) (λ p. ByClause program facts level most b (clause_at program p) goal)) → Finds program facts b goal found
-    solved sound lawful resolved places are large i le first found by_facts g = λ level levels.
-        found_all program facts sound level levels b lawful goal resolved places are most large first found by_facts
-        (ByOne-all i places (λ p. ByClause program facts level most b (clause_at program p) goal) first found le (g level levels))
+    pub all_places : (places : List ℕ) (i : ℕ) → length places ≤ i → (start out : List (List Term)) →
+        GainsBy program start out (λ level. ByOne (take i places) (λ p. ByClause program facts level most b (clause_at program p) goal)) →
+        GainsBy program start out (λ level. ByOne places (λ p. ByClause program facts level most b (clause_at program p) goal))
+    all_places places i le start out g = λ level levels. ByOne-all i places (λ p. ByClause program facts level most b (clause_at program p) goal) start out le (g level levels)
+
+    pub both_places : (keyed others : List ℕ) (start mid out : List (List Term)) →
+        GainsBy program start mid (λ level. ByOne keyed (λ p. ByClause program facts level most b (clause_at program p) goal)) →
+        GainsBy program mid out (λ level. ByOne others (λ p. ByClause program facts level most b (clause_at program p) goal)) →
+        GainsBy program start out (λ level. ByOne (keyed ++ others) (λ p. ByClause program facts level most b (clause_at program p) goal))
+    both_places keyed others start mid out g h = λ level levels. ByOne-both keyed others (λ p. ByClause program facts level most b (clause_at program p) goal) start mid out (g level levels) (h level levels)
+
+    pub solved : IsSound program facts → IsLawful b → map (put (standing b).value) goal.args ≡ goal.args → (places : List ℕ) → ((i : ℕ) → Contains places i ↔ IsPlaceFor program goal i) → 1023 < most →
+        (first found : List (List Term)) → Gains [] first (IsFactFor facts goal) →
+        GainsBy program first found (λ level. ByOne places (λ p. ByClause program facts level most b (clause_at program p) goal)) → Finds program facts b goal found
+    solved sound lawful resolved places are large first found by_facts g = λ level levels.
+        found_all program facts sound level levels b lawful goal resolved places are most large first found by_facts (g level levels)
 
 -- ---- what is known of lists and bindings
 

@@ -1,6 +1,6 @@
 -- What is true is a fact, or is given by a clause.
 use Rattle.std.proofs.Common.{ℕ, ◌≡◌, ◌+◌, ◌≤◌, ◌<◌, ◌↔◌, List, [], ◌∷◌, map, length, refl, sym, ap, ◌∙◌, subst, arith, inl, inr, min}
-use Rattle.std.specs.Prelude.{Contains, ◌⊎◌}
+use Rattle.std.specs.Prelude.{Contains, IsTrue, ◌⊎◌}
 use Rattle.std.specs.List.{AllByRecursion}
 use Rattle.std.proofs.lemmas.List.Elements.{Contains-get_or}
 use Rattle.lps_terms.specs.declared.atom.Atom.{Atom}
@@ -20,7 +20,9 @@ use Rattle.lps_unify.specs.Bindings.{TrailedBindings, standing, IsLawful}
 use Rattle.lps_solve.specs.Answers.{IsSound}
 use Rattle.lps_solve.specs.Found.{atom_of, Gains, IsAnswerTo, IsFactFor, ByClause}
 use Rattle.lps_solve.specs.Met.{AreGround, AreMet, IsGroundCond}
-use Rattle.lps_solve.specs.Table.{clause_at, IsPlaceOf}
+use Rattle.lps_index.specs.Matching.{may_match}
+use Rattle.lps_solve.specs.Table.{clause_at, IsPlaceFor}
+use Rattle.lps_solve.proofs.Matching.{instances_match, matching_named}
 use Rattle.lps_solve.proofs.Gaining.{ByOne, default_free}
 use Rattle.lps_solve.proofs.Grounds.{settled, settled_ground, settles_list, settles_cond}
 use Rattle.lps_solve.proofs.Placing.{solves_after}
@@ -139,8 +141,8 @@ module _ (program : List Clause) (facts : List Atom) (sound : IsSound program fa
       small = h.small;
     }
 
-    -- all clauses of the name of the goal
-    module _ (places : List ℕ) (are : (i : ℕ) → Contains places i ↔ IsPlaceOf program goal.name i) (most : ℕ) (large : 1023 < most) (first found : List (List Term))
+    -- all clauses whose heads may match the goal
+    module _ (places : List ℕ) (are : (i : ℕ) → Contains places i ↔ IsPlaceFor program goal i) (most : ℕ) (large : 1023 < most) (first found : List (List Term))
         (by_facts : Gains [] first (IsFactFor facts goal)) (by_clauses : Gains first found (ByOne places (λ i. ByClause program facts level most b (clause_at program i) goal))) where
       at_place : (i : ℕ) → i < length program → Contains program (clause_at program i)
       at_place i lt = Contains-get_or program i (record { head = record { name = []; args = [] }; conds = [] }) lt
@@ -148,7 +150,7 @@ module _ (program : List Clause) (facts : List Atom) (sound : IsSound program fa
       one_true : (x : List Term) → ByOne places (λ i. ByClause program facts level most b (clause_at program i) goal) x → IsAnswerTo program facts level b goal x
       one_true x one =
           let place = (are one.0).0 one.1 in
-          clause_true (clause_at program one.0) (at_place one.0 place.0) b goal x most large place.1 one.2
+          clause_true (clause_at program one.0) (at_place one.0 place.0) b goal x most large (sym (matching_named goal (clause_at program one.0).head place.1)) one.2
 
       place_for : (k : Clause) → Contains program k → (i : ℕ) × (i < length program) × (clause_at program i ≡ k)
       place_for k c = (c.0, c.1, default_free program c.0 (record { head = record { name = []; args = [] }; conds = [] }) k c.1 ∙ c.2)
@@ -158,8 +160,9 @@ module _ (program : List Clause) (facts : List Atom) (sound : IsSound program fa
       one_given x h f =
           let k = f.of_clauses.clause in
           let place = place_for k f.of_clauses.among in
-          let named : (clause_at program place.0).head.name ≡ goal.name = ap (λ (j : Clause). j.head.name) place.2 ∙ given_name b goal x most h f in
-          (place.0, (are place.0).1 (place.1, named), subst (λ (j : Clause). ByClause program facts level most b j goal x) (sym place.2) (given_by b goal x most h f))
+          let by_it = given_by b goal x most h f in
+          let matches : IsTrue (may_match goal k.head) = instances_match by_it.values by_it.own goal k.head (sym (given_name b goal x most h f)) (sym by_it.is ∙ by_it.head) in
+          (place.0, (are place.0).1 (place.1, subst (λ (j : Clause). IsTrue (may_match goal j.head)) (sym place.2) matches), subst (λ (j : Clause). ByClause program facts level most b j goal x) (sym place.2) by_it)
 
       given : (x : List Term) → IsAnswerTo program facts level b goal x → Contains facts (atom_of goal.name x) ⊎ Follows (Passes is_true) IsTrueHere program (atom_of goal.name x) → Contains found x
       given x h (inl fact) = (by_clauses x).1 (inl ((by_facts x).1 (inr record { among = fact; values = h.values; is = h.is; small = h.small })))

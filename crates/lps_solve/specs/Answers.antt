@@ -6,6 +6,7 @@ use Rattle.std.specs.Ordering.{nat_cmp}
 use Rattle.lps_terms.specs.declared.atom.Atom.{Atom}
 use Rattle.lps_terms.specs.declared.cond.Cond.{Cond}
 use Rattle.lps_terms.specs.declared.term.Term.{Term}
+use Rattle.lps_terms.specs.Put.{put}
 use Rattle.lps_terms.specs.Symbols.{symbols_of}
 use Rattle.lps_terms.specs.declared.text.Text.{Text}
 use Rattle.lps_model.specs.Acceptance.{IsAccepted}
@@ -18,6 +19,7 @@ use Rattle.lps_derivation.specs.Instances.{IsSmall, IsSmallCond, put_clause, put
 use Rattle.lps_derivation.specs.Levels.{AreLevels}
 use Rattle.lps_unify.specs.Bindings.{TrailedBindings, standing, Solves}
 use Rattle.lps_derivation.specs.Ground.{is_ground}
+use Rattle.lps_solve.specs.Found.{IsRow}
 use Rattle.lps_solve.specs.Met.{AreGround, AreMet, IsGroundCond}
 
 -- these variables in order with some more, each once
@@ -38,6 +40,15 @@ pub record IsAnswer (program : List Clause) (facts : List Atom) (level : List �
   pub is : x ≡ map values (variables_left b conds)
   pub ground : AreGround x
   pub small : AllByRecursion (λ t. IsSmall (symbols_of t)) x
+
+-- x is what the wanted terms are in an instance of the conditions that is ground, small and true: ground terms of at most 1,024
+-- symbols each and of at most `room` together, where `most` and more are one
+pub record IsInstanceFor (program : List Clause) (facts : List Atom) (level : List ℕ → ℕ) (most room : ℕ) (b : TrailedBindings) (conds : List Cond) (wanted x : List Term) : Type 0 where
+  pub values : ℕ → Term
+  pub solve : Solves values b
+  pub met : AreMet program facts level values conds
+  pub is : x ≡ map (put values) wanted
+  pub fits : IsRow most room x
 
 -- one of the conditions has an atom, or a side of a built-in, that is too large once what is bound is put in
 abbrev pub AreLarge : TrailedBindings → List Cond → Type 0

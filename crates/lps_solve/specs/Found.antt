@@ -23,6 +23,10 @@ atom_of name args = record { name = name; args = args }
 abbrev pub Gains : List (List Term) → List (List Term) → (List Term → Type 0) → Type 0
 Gains old new P = (x : List Term) → Contains new x ↔ (Contains old x ⊎ P x)
 
+-- what some element of a list gives
+abbrev pub ByOne : {X : Type 0} → List X → (X → List Term → Type 0) → List Term → Type 0
+ByOne {X} ys R x = (y : X) × Contains ys y × R y x
+
 -- ground terms, each of at most 1,024 symbols, and together of at most `room`; `most` and more are one
 pub record IsRow (most room : ℕ) (x : List Term) : Type 0 where
   pub ground : AreGround x

@@ -29,6 +29,15 @@ pub record AreModed (text : Text) (b : TrailedBindings) (conds : List Cond) : Ty
   pub ground : AllByRecursion (λ v. IsTrue (is_ground ((standing b).value v))) known
   pub moded : conds_unknown scope [] known conds ≡ None
 
+-- The same, and in the end each variable of the wanted terms is known.
+pub record AreModedFor (text : Text) (b : TrailedBindings) (conds : List Cond) (wanted : List Term) : Type 0 where
+  pub scope : Scope
+  pub declared : scope.decls ≡ declarations text
+  pub seen : scope.is_planned ≡ false
+  pub known : List ℕ
+  pub ground : AllByRecursion (λ v. IsTrue (is_ground ((standing b).value v))) known
+  pub moded : conds_unknown scope (args_vars wanted) known conds ≡ None
+
 -- ---- along a search
 
 -- the term has no variables

@@ -1,5 +1,4 @@
 ghost use Rattle.std.specs.Prelude.{◌≡◌, ◌↔◌, ℕ, List, IfOk, MatchOption, Contains, map};
-ghost use Rattle.std.specs.BTreeSet.{IsOrdered};
 ghost use Rattle.std.specs.List.{flat_map};
 ghost use Rattle.std.specs.List.Sorted.{IsStrictlySortedBy};
 ghost use Rattle.std.specs.Cmp.Lexicographic.{slice_cmp};
@@ -18,11 +17,10 @@ ghost use Rattle.lps_solve.specs.Met.{AreGround};
 ghost use Rattle.lps_solve.specs.Moded.{AreModed};
 ghost use Rattle.lps_solve.specs.Placed.{AreBelow};
 
-use crate::found::rows_of;
+use crate::instance::instances_by;
 use crate::place_cond::place_cond;
 use crate::program::Program;
-use crate::row::Row;
-use crate::search::{Search, run};
+use crate::search::Search;
 use crate::variables::note_cond;
 use lps_facts::Facts;
 use lps_terms::{Args, Cond, Term, Values};
@@ -80,10 +78,8 @@ fn answers_by(
     match wanted_in(alloc, conds, bindings)? {
         Some(wanted) => {
             bindings.lawful();
-            let mut found = BTreeSet::new(alloc);
             let terms = wanted.as_slice();
-            run(search, conds, 0, terms, u64::MAX, bindings, &mut found)?;
-            values_of(alloc, found)
+            instances_by(search, conds, terms, u64::MAX, bindings)
         }
         None => {
             bindings.lawful();
@@ -116,16 +112,4 @@ fn as_terms(alloc: Global, variables: BTreeSet<u32>) -> Result<Args, AllocError>
         terms.push(Term::Var(variable))?;
     }
     Ok(Items::from_vec(terms))
-}
-
-fn values_of(alloc: Global, found: BTreeSet<Row>) -> Result<Vec<Values>, AllocError>
-    ensures all { IfOk result (λ values. map (λ v. v.0) values.items ≡ found.keys) }
-    ensures sorted { IsOrdered (slice_cmp term_cmp) found }
-{
-    let _count = found.len();
-    let mut values = Vec::new(alloc);
-    for row in found {
-        values.push(Values(row.into_terms()))?;
-    }
-    Ok(values)
 }

@@ -1,23 +1,20 @@
-ghost use Rattle.std.specs.Prelude.{◌≡◌, ◌<◌, ◌++◌, ◌∷◌, [], ◌↔◌, ℕ, List, IfOk, OnOk, length, Contains};
+ghost use Rattle.std.specs.Prelude.{◌≡◌, ◌<◌, ◌++◌, ◌∷◌, [], IfOk, length};
 ghost use Rattle.std.specs.List.{AllByRecursion};
 ghost use Rattle.lps_terms.specs.declared.cond.Cond.{Cond as Condition};
 ghost use Rattle.lps_model.specs.Clauses.{clause_in, clauses};
-ghost use Rattle.lps_solve.specs.Table.{IsPlaceOf, IsWithPlace, clause_at, clause_of, clause_vars};
+ghost use Rattle.lps_solve.specs.Table.{clause_at, clause_of, clause_vars};
 
 use crate::clause::Clause;
 use crate::copy::copy_conds;
 use crate::variables::{above_conds, above_terms};
-use indexmap::IndexMap;
-use lps_terms::{Atom, Body, Cond, Name, Text, copy_atom};
+use lps_terms::{Atom, Body, Cond, Text, copy_atom};
 use std::alloc::{AllocError, Global};
 use std::marker::Model;
 
-/// The clauses of a text, found by the names of their heads. Contracts see the list of the clauses, in text order.
+/// The clauses of a text, each with a number above those of its variables. Contracts see the list of the clauses, in text order.
 #[derive(Drop)]
 pub(crate) struct Clauses {
     clauses: Vec<Clause>,
-    /// For each name, which clauses have it in their heads.
-    table: Table,
 }
 
 impl Model for Clauses {
@@ -26,7 +23,7 @@ impl Model for Clauses {
     ghost use Rattle.lps_model.specs.Clauses.{Clause};
     ghost use Rattle.std.specs.Coded.{codes};
     ghost use Rattle.std.specs.Prelude.{List, map};
-    ghost use Rattle.lps_solve.specs.Table.{IsTable, clause_of};
+    ghost use Rattle.lps_solve.specs.Table.{AreCounted, clause_of};
 
     ghost Value = { List Clause };
 
@@ -34,7 +31,7 @@ impl Model for Clauses {
 
     ghost view = { λ table. map clause_of table.clauses.items };
 
-    ghost invariant = { λ table. IsTable table.clauses.items table.table.entries };
+    ghost invariant = { λ table. AreCounted table.clauses.items };
 }
 
 impl Clauses {
@@ -44,7 +41,6 @@ impl Clauses {
     {
         let mut found = Clauses {
             clauses: Vec::new(alloc),
-            table: IndexMap::new(alloc),
         };
         for statement in text.statements.as_slice() {
             found = found.with_body(alloc, &statement.body)?;
@@ -65,9 +61,8 @@ impl Clauses {
     fn with_clause(self, alloc: Global, head: &Atom, conds: &[Cond]) -> Result<Clauses, AllocError>
         ensures { IfOk result (λ found. found ≡ self ++ record { head = head.now; conds = conds.now } ∷ []) }
     {
-        let Clauses { mut clauses, table } = self;
+        let Clauses { mut clauses } = self;
         let variables = above_terms(head.args.as_slice()).max(above_conds(conds));
-        let table = with_place(alloc, table, &head.name, clauses.len())?;
         let head = copy_atom(alloc, head)?;
         let conds = copy_conds(alloc, conds)?;
         clauses.push(Clause {
@@ -75,17 +70,7 @@ impl Clauses {
             conds,
             variables,
         })?;
-        Ok(Clauses { clauses, table })
-    }
-
-    /// The places of the clauses with this name in their heads.
-    pub(crate) fn places(&self, name: &Name) -> &[usize]
-        ensures { (i : ℕ) → Contains result.now i ↔ IsPlaceOf self.now name.now i }
-    {
-        match self.table.get(name) {
-            Some(places) => places.as_slice(),
-            None => &[],
-        }
+        Ok(Clauses { clauses })
     }
 
     /// The clause at a place.
@@ -96,25 +81,4 @@ impl Clauses {
     {
         &self.clauses[at]
     }
-}
-
-type Table = IndexMap<Name, Vec<usize>>;
-
-/// The table with one place more for a name.
-fn with_place(
-    alloc: Global,
-    mut table: Table,
-    name: &Name,
-    place: usize,
-) -> Result<Table, AllocError>
-    ensures { IfOk result (λ new. IsWithPlace name.now place table.entries new.entries) }
-{
-    let name = name.copy(alloc)?;
-    let mut places = match table.swap_remove(&name) {
-        Some(places) => places,
-        None => Vec::new(alloc),
-    };
-    places.push(place)?;
-    table.insert(name, places)?;
-    Ok(table)
 }

@@ -1,4 +1,7 @@
 ghost use Rattle.std.specs.Prelude.{◌≡◌, ◌≤◌, ◌<◌, ◌+◌, ◌^◌, [], IfOk, IfSome, OnOk, map};
+ghost use Rattle.std.specs.BTreeSet.{IsOrdered};
+ghost use Rattle.std.specs.Cmp.Lexicographic.{slice_cmp};
+ghost use Rattle.lps_terms.specs.Order.{term_cmp};
 ghost use Rattle.lps_terms.specs.Put.{put};
 ghost use Rattle.lps_terms.specs.Symbols.{symbols_of_all};
 ghost use Rattle.lps_model.specs.VariableLists.{args_vars};
@@ -11,7 +14,7 @@ use crate::ground::are_ground;
 use crate::row::Row;
 use crate::size::{MOST_SYMBOLS, symbols_of_all};
 use lps_facts::Facts;
-use lps_terms::{Atom, Term, atom_symbols, copy_atom};
+use lps_terms::{Atom, Term, Values, atom_symbols, copy_atom};
 use lps_unify::Bindings;
 use sqlite_items::Items;
 use std::alloc::{AllocError, Global};
@@ -91,6 +94,19 @@ pub(crate) fn rows_of(alloc: Global, found: BTreeSet<Row>) -> Result<Items<Row>,
         rows.push(row)?;
     }
     Ok(Items::from_vec(rows))
+}
+
+/// The rows of a set as values, in order.
+pub(crate) fn values_of(alloc: Global, found: BTreeSet<Row>) -> Result<Vec<Values>, AllocError>
+    ensures all { IfOk result (λ values. map (λ v. v.0) values.items ≡ found.keys) }
+    ensures sorted { IsOrdered (slice_cmp term_cmp) found }
+{
+    let _count = found.len();
+    let mut values = Vec::new(alloc);
+    for row in found {
+        values.push(Values(row.into_terms()))?;
+    }
+    Ok(values)
 }
 
 /// So many variables more, where there are numbers for them.

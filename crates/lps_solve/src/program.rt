@@ -1,21 +1,22 @@
-ghost use Rattle.std.specs.Prelude.{◌≡◌, ◌<◌, ◌↔◌, ℕ, IsTrue, IfOk, Contains, length};
+ghost use Rattle.std.specs.Prelude.{◌≡◌, ◌<◌, ◌↔◌, ◌++◌, ℕ, IsTrue, IfOk, Contains, length};
 ghost use Rattle.std.specs.List.{AllByRecursion};
 ghost use Rattle.lps_model.specs.Acceptance.{IsAccepted};
 ghost use Rattle.lps_model.specs.Formed.{is_formed};
 ghost use Rattle.lps_model.specs.Clauses.{clauses};
-ghost use Rattle.lps_solve.specs.Table.{IsPlaceOf, clause_at, clause_of, clause_vars};
+ghost use Rattle.lps_solve.specs.Table.{IsPlaceFor, clause_at, clause_of, clause_vars};
 
 use crate::clause::Clause;
 use crate::clauses::Clauses;
+use lps_index::{Found, Index};
 use lps_model::Accepted;
-use lps_terms::Name;
+use lps_terms::Atom;
 use std::alloc::{AllocError, Global};
 use std::marker::Model;
 
-/// An accepted text, with its clauses found by the names of their heads. Contracts see the text.
+/// An accepted text with its index, and its clauses ready to be asked. Contracts see the text.
 #[derive(Drop)]
 pub struct Program {
-    text: Accepted,
+    index: Index,
     clauses: Clauses,
 }
 
@@ -30,25 +31,33 @@ impl Model for Program {
 
     ghost coded = { Prim.hlevel (codes, term.the_row.coded, expr.the_row.coded) };
 
-    ghost view = { λ program. program.text };
+    ghost view = { λ program. program.index };
 
-    ghost invariant = { λ program. AreClausesOf program.text program.clauses };
+    ghost invariant = { λ program. AreClausesOf program.index program.clauses };
 }
 
 impl Program {
-    /// The text with its clauses found by name. An error comes where memory runs out.
+    /// The text with its index. The only error is that memory runs out.
     pub fn new(alloc: Global, text: Accepted) -> Result<Program, AllocError>
         ensures { IfOk result (λ program. program ≡ text) }
     {
         let clauses = Clauses::new(alloc, text.text())?;
-        Ok(Program { text, clauses })
+        let index = Index::new(alloc, text)?;
+        Ok(Program { index, clauses })
     }
 
     /// The text.
     pub fn text(&self) -> &Accepted
         ensures { result.now ≡ self.now }
     {
-        &self.text
+        self.index.text()
+    }
+
+    /// The index of the text.
+    pub fn index(&self) -> &Index
+        ensures { result.now ≡ self.now }
+    {
+        &self.index
     }
 
     /// What holds of all programs.
@@ -56,14 +65,14 @@ impl Program {
         ensures accepted { IsAccepted self.now }
         ensures formed { IsTrue (is_formed self.now) }
     {
-        let _ = self.text.text();
+        self.index.lawful();
     }
 
-    /// The places of the clauses with this name in their heads.
-    pub(crate) fn places(&self, name: &Name) -> &[usize]
-        ensures { (i : ℕ) → Contains result.now i ↔ IsPlaceOf (clauses self.now) name.now i }
+    /// The places of the clauses that a goal is taken to.
+    pub(crate) fn places_for(&self, goal: &Atom) -> Found<'_>
+        ensures { (i : ℕ) → Contains (result.keyed.now ++ result.others.now) i ↔ IsPlaceFor (clauses self.now) goal.now i }
     {
-        self.clauses.places(name)
+        self.index.clauses_for(goal)
     }
 
     /// The clause at a place.

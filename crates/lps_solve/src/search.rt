@@ -1,4 +1,4 @@
-ghost use Rattle.std.specs.Prelude.{◌≡◌, ◌≤◌, ◌+◌, [], IfOk, OnOk, Contains, map};
+ghost use Rattle.std.specs.Prelude.{◌≡◌, ◌≤◌, ◌+◌, [], ℕ, IfOk, OnOk, Contains, map};
 ghost use Rattle.std.specs.List.{flat_map};
 ghost use Rattle.lps_terms.specs.Put.{put};
 ghost use Rattle.lps_terms.specs.declared.cond.Cond.TheVariants as Condition;
@@ -11,11 +11,11 @@ ghost use Rattle.lps_facts.specs.Facts.{members};
 ghost use Rattle.lps_unify.specs.Bindings.{count_of, standing};
 ghost use Rattle.lps_unify.specs.Unified.{AreWithin};
 ghost use Rattle.lps_solve.specs.Answers.{IsSearched};
-ghost use Rattle.lps_solve.specs.Found.{ByClause, Finds, GainsBy, IsLonger, Reaches, ReachesBy};
+ghost use Rattle.lps_solve.specs.Found.{ByClause, ByOne, Finds, GainsBy, IsLonger, Reaches, ReachesBy};
 ghost use Rattle.lps_solve.specs.Met.{AreGround, MeetsBy};
 ghost use Rattle.lps_solve.specs.Moded.{IsMarked, IsModedRun, IsModedStep, IsReadyCond, needs_of};
 ghost use Rattle.lps_solve.specs.Placed.{AreBelow, values_in};
-ghost use Rattle.lps_solve.specs.Table.{clause_of, clause_vars};
+ghost use Rattle.lps_solve.specs.Table.{IsPlaceFor, clause_at, clause_of, clause_vars};
 
 use crate::built::ways_to_meet;
 use crate::clause::Clause;
@@ -43,6 +43,15 @@ pub(crate) struct Search<'a> {
     pub levels: &'a Levels,
 }
 
+/// What conditions are asked for: the wanted terms, together of at most `room` symbols. The variables of the conditions count
+/// from `base`.
+#[derive(Clone, Copy)]
+pub(crate) struct Query<'a> {
+    pub base: u32,
+    pub wanted: &'a [Term],
+    pub room: u64,
+}
+
 /// How many symbols the arguments of an atom of an instance may have together.
 const MOST_IN_ARGUMENTS: u64 = 1023;
 
@@ -64,11 +73,34 @@ fn solve(
     bindings.lawful();
     let mut found = BTreeSet::new(search.alloc);
     add_facts(search.alloc, search.facts, goal, &mut found)?;
-    for place in search.program.places(&goal.name) {
-        let clause = search.program.clause(*place);
-        by_clause(search, clause, goal, bindings, &mut found)?;
-    }
+    let places = search.program.places_for(goal);
+    by_clauses(search, places.keyed, goal, bindings, &mut found)?;
+    by_clauses(search, places.others, goal, bindings, &mut found)?;
     Ok(found)
+}
+
+/// Adds what the clauses at these places give.
+#[cycle(search)]
+fn by_clauses(
+    search: &Search<'_>,
+    places: &[usize],
+    goal: &Atom,
+    bindings: &mut Bindings,
+    found: &mut BTreeSet<Row>,
+) -> Result<(), AllocError>
+    requires sound { IsSearched search.now.program.now search.now.levels.now (members search.now.facts.now) }
+    requires places { (i : ℕ) → Contains places.now i → IsPlaceFor (clauses search.now.program.now) goal.now i }
+    requires within { AreWithin (count_of bindings.now) goal.now.args }
+    requires small { atom_symbols_of goal.now ≤ 1024 }
+    requires marked { IsMarked (declarations search.now.program.now) goal.now }
+    ensures found { OnOk result (GainsBy (clauses search.now.program.now) found.old.keys found.new.keys (λ level. ByOne places.now (λ i. ByClause (clauses search.now.program.now) (members search.now.facts.now) level u64.MAX bindings.old (clause_at (clauses search.now.program.now) i) goal.now))) }
+    ensures same { bindings.new ≡ bindings.old }
+{
+    for place in places {
+        let clause = search.program.clause(*place);
+        by_clause(search, clause, goal, bindings, found)?;
+    }
+    Ok(())
 }
 
 /// Adds what a clause gives.
@@ -130,51 +162,44 @@ fn enter(
     if unify_all(bindings, wanted, pattern)? {
         bindings.lawful();
         let conds = clause.conds.as_slice();
-        run(
-            search,
-            conds,
+        let query = Query {
             base,
             wanted,
-            MOST_IN_ARGUMENTS,
-            bindings,
-            found,
-        )
+            room: MOST_IN_ARGUMENTS,
+        };
+        run(search, conds, &query, bindings, found)
     } else {
         Ok(())
     }
 }
 
-/// Adds what the wanted terms are where the conditions are met, together of at most `room` symbols.
+/// Adds what the wanted terms are where the conditions are met.
 #[cycle(search)]
 pub(crate) fn run(
     search: &Search<'_>,
     conds: &[Cond],
-    base: u32,
-    wanted: &[Term],
-    room: u64,
+    query: &Query<'_>,
     bindings: &mut Bindings,
     found: &mut BTreeSet<Row>,
 ) -> Result<(), AllocError>
     requires sound { IsSearched search.now.program.now search.now.levels.now (members search.now.facts.now) }
-    requires within { AreWithin (count_of bindings.now) wanted.now }
-    requires below { AreBelow (count_of bindings.now) base (flat_map cond_vars conds.now) }
-    requires moded { IsModedRun search.now.program.now bindings.now base conds.now wanted.now }
-    ensures found { OnOk result (GainsBy (clauses search.now.program.now) found.old.keys found.new.keys (λ level. Reaches (clauses search.now.program.now) (members search.now.facts.now) level u64.MAX room bindings.old base conds.now wanted.now)) }
+    requires within { AreWithin (count_of bindings.now) query.now.wanted.now }
+    requires below { AreBelow (count_of bindings.now) query.now.base (flat_map cond_vars conds.now) }
+    requires moded { IsModedRun search.now.program.now bindings.now query.now.base conds.now query.now.wanted.now }
+    ensures found { OnOk result (GainsBy (clauses search.now.program.now) found.old.keys found.new.keys (λ level. Reaches (clauses search.now.program.now) (members search.now.facts.now) level u64.MAX query.now.room bindings.old query.now.base conds.now query.now.wanted.now)) }
     ensures same { bindings.new ≡ bindings.old }
 {
     bindings.lawful();
     match conds.split_first() {
         Some((cond, rest)) => {
-            let ways = meet(search, cond, base, bindings)?;
+            let ways = meet(search, cond, query.base, bindings)?;
             let terms = ways.terms.as_slice();
             for row in ways.rows.as_slice() {
-                step(
-                    search, rest, base, wanted, room, terms, row, bindings, found,
-                )?;
+                step(search, rest, query, terms, row, bindings, found)?;
             }
             Ok(())
         }
-        None => collect(search.alloc, wanted, room, bindings, found),
+        None => collect(search.alloc, query.wanted, query.room, bindings, found),
     }
 }
 
@@ -230,27 +255,23 @@ fn meet_literal(search: &Search<'_>, lit: Lit, bindings: &mut Bindings) -> Resul
 fn step(
     search: &Search<'_>,
     conds: &[Cond],
-    base: u32,
-    wanted: &[Term],
-    room: u64,
+    query: &Query<'_>,
     terms: &[Term],
     row: &Row,
     bindings: &mut Bindings,
     found: &mut BTreeSet<Row>,
 ) -> Result<(), AllocError>
     requires sound { IsSearched search.now.program.now search.now.levels.now (members search.now.facts.now) }
-    requires within { AreWithin (count_of bindings.now) wanted.now }
-    requires below { AreBelow (count_of bindings.now) base (flat_map cond_vars conds.now) }
+    requires within { AreWithin (count_of bindings.now) query.now.wanted.now }
+    requires below { AreBelow (count_of bindings.now) query.now.base (flat_map cond_vars conds.now) }
     requires terms { AreWithin (count_of bindings.now) terms.now }
     requires ground { AreGround row.now }
-    requires moded { IsModedStep search.now.program.now bindings.now base conds.now wanted.now terms.now row.now }
-    ensures found { OnOk result (GainsBy (clauses search.now.program.now) found.old.keys found.new.keys (λ level. ReachesBy (clauses search.now.program.now) (members search.now.facts.now) level u64.MAX room bindings.old base conds.now wanted.now terms.now row.now)) }
+    requires moded { IsModedStep search.now.program.now bindings.now query.now.base conds.now query.now.wanted.now terms.now row.now }
+    ensures found { OnOk result (GainsBy (clauses search.now.program.now) found.old.keys found.new.keys (λ level. ReachesBy (clauses search.now.program.now) (members search.now.facts.now) level u64.MAX query.now.room bindings.old query.now.base conds.now query.now.wanted.now terms.now row.now)) }
     ensures same { bindings.new ≡ bindings.old }
 {
     let mark = bindings.mark();
-    let done = bound(
-        search, conds, base, wanted, room, terms, row, bindings, found,
-    );
+    let done = bound(search, conds, query, terms, row, bindings, found);
     bindings.undo_to(&mark);
     done
 }
@@ -259,21 +280,19 @@ fn step(
 fn bound(
     search: &Search<'_>,
     conds: &[Cond],
-    base: u32,
-    wanted: &[Term],
-    room: u64,
+    query: &Query<'_>,
     terms: &[Term],
     row: &Row,
     bindings: &mut Bindings,
     found: &mut BTreeSet<Row>,
 ) -> Result<(), AllocError>
     requires sound { IsSearched search.now.program.now search.now.levels.now (members search.now.facts.now) }
-    requires within { AreWithin (count_of bindings.now) wanted.now }
-    requires below { AreBelow (count_of bindings.now) base (flat_map cond_vars conds.now) }
+    requires within { AreWithin (count_of bindings.now) query.now.wanted.now }
+    requires below { AreBelow (count_of bindings.now) query.now.base (flat_map cond_vars conds.now) }
     requires terms { AreWithin (count_of bindings.now) terms.now }
     requires ground { AreGround row.now }
-    requires moded { IsModedStep search.now.program.now bindings.now base conds.now wanted.now terms.now row.now }
-    ensures found { OnOk result (GainsBy (clauses search.now.program.now) found.old.keys found.new.keys (λ level. ReachesBy (clauses search.now.program.now) (members search.now.facts.now) level u64.MAX room bindings.old base conds.now wanted.now terms.now row.now)) }
+    requires moded { IsModedStep search.now.program.now bindings.now query.now.base conds.now query.now.wanted.now terms.now row.now }
+    ensures found { OnOk result (GainsBy (clauses search.now.program.now) found.old.keys found.new.keys (λ level. ReachesBy (clauses search.now.program.now) (members search.now.facts.now) level u64.MAX query.now.room bindings.old query.now.base conds.now query.now.wanted.now terms.now row.now)) }
     ensures extended { IsLonger bindings.old bindings.new }
 {
     let values = row.terms();
@@ -283,7 +302,7 @@ fn bound(
     bindings.lawful();
     if unify_all(bindings, terms, values)? {
         bindings.lawful();
-        run(search, conds, base, wanted, room, bindings, found)
+        run(search, conds, query, bindings, found)
     } else {
         Ok(())
     }

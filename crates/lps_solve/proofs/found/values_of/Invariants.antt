@@ -1,5 +1,5 @@
 use Rattle.std.proofs.Common.{◌≡◌, ◌++◌, map}
-use Rattle.lps_solve.proofs.answer.values_of.Given as goal
+use Rattle.lps_solve.proofs.found.values_of.Given as goal
 
 -- the values so far, and the rows that are left
 abbrev pub invariant-loop-row : goal.invariant-loop-row
