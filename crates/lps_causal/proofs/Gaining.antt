@@ -1,18 +1,15 @@
 -- What is gained, step by step.
-use Rattle.std.proofs.Common.{ℕ, ◌≡◌, ◌+◌, ◌≤◌, ◌<◌, List, [], ◌∷◌, sym, subst, refl, inl, inr, ◌∙◌, take, length, get_or}
+use Rattle.std.proofs.Common.{ℕ, Bool, true, false, not, ◌≡◌, ◌+◌, ◌≤◌, ◌<◌, List, [], ◌∷◌, ◌++◌, map, take, length, get_or, refl, sym, ap, ◌∙◌, subst, inl, inr}
 use Rattle.std.specs.Prelude.{Contains, ◌⊎◌, ◌↔◌}
-use Rattle.std.specs.BTreeSet.{insert_key}
-use Rattle.std.specs.FinMap.{nat_cmp-IsAntisymmetric}
-use Rattle.std.specs.Ordering.{nat_cmp}
-use Rattle.std.specs.declared.cmp.Ordering.{Ordering}
-use Rattle.std.specs.declared.cmp.Ordering.TheVariants.{Less, Equal, Greater}
-use Rattle.std.proofs.lemmas.List.Elements.{Contains-push, Contains-push_cases, Contains-append_left}
+use Rattle.std.proofs.lemmas.List.{map-append}
+use Rattle.std.proofs.lemmas.List.Elements.{Contains-push, Contains-push_cases, Contains-append_left, Contains-append_right, Contains-append_cases}
 use Rattle.lps_terms.specs.declared.atom.Atom.{Atom}
-use Rattle.lps_terms.specs.Order.{atom_cmp}
-use Rattle.lps_terms.specs.OrderLaws.{atom_cmp-IsAntisymmetric}
-use Rattle.lps_model.proofs.Elements.{first_is_contained, first_or_later, later_is_contained, nothing_contained}
+use Rattle.lps_terms.specs.declared.term.Term.{Term}
+use Rattle.lps_terms.specs.declared.values.Values.{Values}
+use Rattle.lps_model.proofs.Elements.{nothing_contained}
 use Rattle.lps_solve.proofs.Gaining.{take_more, take_whole}
-use Rattle.lps_causal.specs.Given.{ByOne, Gains}
+use Rattle.lps_causal.specs.declared.given.Given.{Given}
+use Rattle.lps_causal.specs.Given.{Adds, ByOne, Gains, IsOfRowAs, fluents_of}
 
 pub Gains-none : (xs : List Atom) (P : Atom → Type 0) → ((a : Atom) → P a → ⊥) → Gains xs xs P
 Gains-none xs P none = λ a. (λ h. inl h, λ e. elim e [ inl h ↦ h | inr h ↦ absurd (none a h) ])
@@ -47,55 +44,99 @@ ByOne-more i ys y P us bs cs lt is g h =
 pub ByOne-all : {X : Type 0} (i : ℕ) (ys : List X) (P : X → Atom → Type 0) (us bs : List Atom) → length ys ≤ i → Gains us bs (ByOne (take i ys) P) → Gains us bs (ByOne ys P)
 ByOne-all i ys P us bs le g = subst (λ zs. Gains us bs (ByOne zs P)) (take_whole i ys le) g
 
--- ---- one more in a set
+-- what some element of the one list gives, and then of the other
+pub ByOne-both : {X : Type 0} (xs ys : List X) (P : X → Atom → Type 0) (us bs cs : List Atom) → Gains us bs (ByOne xs P) → Gains bs cs (ByOne ys P) → Gains us cs (ByOne (xs ++ ys) P)
+ByOne-both xs ys P us bs cs g h = λ a. (
+  λ inside. elim ((h a).0 inside) [
+    | inl b ↦ elim ((g a).0 b) [ inl old ↦ inl old | inr one ↦ inr (one.0, Contains-append_left xs ys one.0 one.1, one.2) ]
+    | inr one ↦ inr (one.0, Contains-append_right xs ys one.0 one.1, one.2)
+  ],
+  λ given. elim given [
+    | inl old ↦ (h a).1 (inl ((g a).1 (inl old)))
+    | inr one ↦ elim (Contains-append_cases xs ys one.0 one.1) [
+      | inl first ↦ (h a).1 (inl ((g a).1 (inr (one.0, first, one.2))))
+      | inr second ↦ (h a).1 (inr (one.0, second, one.2))
+    ]
+  ],
+)
 
-module _ {X : Type 0} (cmp : X → X → Ordering) (ties : (x y : X) → cmp x y ≡ Equal → x ≡ y) where
-  abbrev Inserts : List X → X → List X → Type 0
-  Inserts xs k ys = (x : X) → Contains ys x ↔ (Contains xs x ⊎ (x ≡ k))
+-- what is gained on top of nothing is all that there is
+pub all_gained : (xs : List Atom) (P : Atom → Type 0) → Gains [] xs P → (a : Atom) → Contains xs a ↔ P a
+all_gained xs P g a = (λ h. elim ((g a).0 h) [ inl none ↦ absurd (nothing_contained a none) | inr new ↦ new ], λ h. (g a).1 (inr h))
 
-  first_or : (y : X) (ys : List X) (x : X) → Contains (y ∷ ys) x → (x ≡ y) ⊎ Contains ys x
-  first_or y ys x h = elim (first_or_later y ys x h) [ inl same ↦ inl (sym same) | inr later ↦ inr later ]
+-- ---- one fluent more
 
-  here : (y : X) (ys : List X) (x : X) → x ≡ y → Contains (y ∷ ys) x
-  here y ys x same = subst (Contains (y ∷ ys)) (sym same) (first_is_contained y ys)
+push_gains : (atoms : List Atom) (k : Atom) → Gains atoms (atoms ++ k ∷ []) (λ a. a ≡ k)
+push_gains atoms k = λ a. (
+  λ h. elim (Contains-push_cases atoms k a h) [ inl old ↦ inl old | inr same ↦ inr (sym same) ],
+  λ h. elim h [ inl old ↦ Contains-append_left atoms (k ∷ []) a old | inr same ↦ subst (Contains (atoms ++ k ∷ [])) (sym same) (Contains-push atoms k) ],
+)
 
-  abbrev at : Ordering → X → X → List X → List X → List X
-  at Less k y ys deeper = k ∷ y ∷ ys
-  at Equal k y ys deeper = y ∷ ys
-  at Greater k y ys deeper = y ∷ deeper
+-- a fluent put in its own list, where a law of one kind gives it
+pushed : (kind initiates : Bool) (old new : List Atom) (fluent : Atom) → kind ≡ initiates → new ≡ old ++ fluent ∷ [] → Gains old new (λ a. (kind ≡ initiates) × (a ≡ fluent))
+pushed kind initiates old new fluent same put =
+    subst (λ (xs : List Atom). Gains old xs (λ a. (kind ≡ initiates) × (a ≡ fluent))) (sym put)
+    (Gains-same old (old ++ fluent ∷ []) (λ a. a ≡ fluent) (λ a. (kind ≡ initiates) × (a ≡ fluent)) (λ a e. (same, e)) (λ a h. h.1) (push_gains old fluent))
 
-  inserts_at : (o : Ordering) (k y : X) (ys deeper : List X) → cmp k y ≡ o → Inserts ys k deeper → Inserts (y ∷ ys) k (at o k y ys deeper)
-  inserts_at Less k y ys deeper e rest = λ x. (
-    λ h. elim (first_or k (y ∷ ys) x h) [ inl same ↦ inr same | inr old ↦ inl old ],
-    λ h. elim h [ inl old ↦ later_is_contained k (y ∷ ys) x old | inr same ↦ here k (y ∷ ys) x same ],
-  )
-  inserts_at Equal k y ys deeper e rest = λ x. (λ h. inl h, λ h. elim h [ inl old ↦ old | inr same ↦ here y ys x (same ∙ ties k y e) ])
-  inserts_at Greater k y ys deeper e rest = λ x. (
-    λ h. elim (first_or y deeper x h) [
-      | inl same ↦ inl (here y ys x same)
-      | inr later ↦ elim ((rest x).0 later) [ inl old ↦ inl (later_is_contained y ys x old) | inr new ↦ inr new ]
-    ],
-    λ h. elim h [
-      | inl old ↦ elim (first_or y ys x old) [ inl same ↦ here y deeper x same | inr later ↦ later_is_contained y deeper x ((rest x).1 (inl later)) ]
-      | inr new ↦ later_is_contained y deeper x ((rest x).1 (inr new))
-    ],
-  )
+-- the other list stays
+stayed : (kind initiates : Bool) (old new : List Atom) (fluent : Atom) → (kind ≡ initiates → ⊥) → new ≡ old → Gains old new (λ a. (kind ≡ initiates) × (a ≡ fluent))
+stayed kind initiates old new fluent other kept =
+    subst (λ (xs : List Atom). Gains old xs (λ a. (kind ≡ initiates) × (a ≡ fluent))) (sym kept) (Gains-none old (λ a. (kind ≡ initiates) × (a ≡ fluent)) (λ a h. other h.0))
 
-  inserts_by : (o : Ordering) (k y : X) (ys : List X) → cmp k y ≡ o → Inserts ys k (insert_key cmp ys k) → Inserts (y ∷ ys) k (insert_key cmp (y ∷ ys) k)
-  inserts_by Less k y ys e rest = rw e (inserts_at Less k y ys (insert_key cmp ys k) e rest)
-  inserts_by Equal k y ys e rest = rw e (inserts_at Equal k y ys (insert_key cmp ys k) e rest)
-  inserts_by Greater k y ys e rest = rw e (inserts_at Greater k y ys (insert_key cmp ys k) e rest)
+pub initiated_added : (old new : Given) (fluent : Atom) → new.initiated.items ≡ old.initiated.items ++ fluent ∷ [] → new.terminated.items ≡ old.terminated.items →
+    (kind : Bool) → kind ≡ true → Adds old new (λ initiates a. (kind ≡ initiates) × (a ≡ fluent))
+initiated_added old new fluent put kept kind is true = pushed kind true old.initiated.items new.initiated.items fluent is put
+initiated_added old new fluent put kept kind is false = stayed kind false old.terminated.items new.terminated.items fluent (λ e. (let no : true ≡ false = sym is ∙ e in cc)) kept
 
-  pub inserts : (ks : List X) (k : X) → Inserts ks k (insert_key cmp ks k)
-  inserts [] k = λ x. (
-    λ h. elim (first_or k [] x h) [ inl same ↦ inr same | inr none ↦ inl none ],
-    λ h. elim h [ inl none ↦ later_is_contained k [] x none | inr same ↦ here k [] x same ],
-  )
-  inserts (y ∷ ys) k = inserts_by (cmp k y) k y ys refl (inserts ys k)
+pub terminated_added : (old new : Given) (fluent : Atom) → new.terminated.items ≡ old.terminated.items ++ fluent ∷ [] → new.initiated.items ≡ old.initiated.items →
+    (kind : Bool) → kind ≡ false → Adds old new (λ initiates a. (kind ≡ initiates) × (a ≡ fluent))
+terminated_added old new fluent put kept kind is true = stayed kind true old.initiated.items new.initiated.items fluent (λ e. (let no : false ≡ true = sym is ∙ e in cc)) kept
+terminated_added old new fluent put kept kind is false = pushed kind false old.terminated.items new.terminated.items fluent is put
 
-pub insert_gains : (atoms : List Atom) (k : Atom) → Gains atoms (insert_key atom_cmp atoms k) (λ a. a ≡ k)
-insert_gains atoms k = inserts atom_cmp atom_cmp-IsAntisymmetric atoms k
+-- nothing is given where both lists are empty
+pub none_given : (given : Given) → given.initiated.items ≡ [] → given.terminated.items ≡ [] → (initiates : Bool) → fluents_of initiates given ≡ []
+none_given given one other true = one
+none_given given one other false = other
 
--- one more place
-pub place_added : (places : List ℕ) (k i : ℕ) → Contains (insert_key nat_cmp places k) i ↔ (Contains places i ⊎ (i ≡ k))
-place_added places k i = inserts nat_cmp nat_cmp-IsAntisymmetric places k i
+-- ---- rows
+
+abbrev rows_of : List Values → List (List Term)
+rows_of rows = map (λ (v : Values). v.0) rows
+
+-- the fluent is there, or its arguments are a row that is left
+abbrev pub IsThereOrLeft : Given → Bool → List ℕ → List Values → Bool → Atom → Type 0
+IsThereOrLeft given kind name rows initiates a = Contains (fluents_of initiates given) a ⊎ IsOfRowAs kind name (rows_of rows) initiates a
+
+-- the last row that was left is added
+pub row_added : (old new : Given) (kind : Bool) (name : List ℕ) (rows left : List Values) (row : Values) → rows ≡ left ++ row ∷ [] →
+    Adds old new (λ initiates a. (kind ≡ initiates) × (a ≡ record { name = name; args = row.0 })) →
+    (initiates : Bool) (a : Atom) → IsThereOrLeft new kind name left initiates a ↔ IsThereOrLeft old kind name rows initiates a
+row_added old new kind name rows left row e g initiates a =
+    let split : rows_of rows ≡ rows_of left ++ row.0 ∷ [] = ap rows_of e ∙ map-append (λ (v : Values). v.0) left (row ∷ []) in (
+      λ h. elim h [
+        | inl there ↦ elim ((g initiates a).0 there) [
+          | inl before ↦ inl before
+          | inr here ↦ inr (
+            here.0,
+            ap (λ (b : Atom). b.name) here.1,
+            subst (λ (xs : List (List Term)). Contains xs a.args) (sym split) (subst (Contains (rows_of left ++ row.0 ∷ [])) (sym (ap (λ (b : Atom). b.args) here.1)) (Contains-push (rows_of left) row.0)),
+          )
+        ]
+        | inr one ↦ inr (one.0, one.1, subst (λ (xs : List (List Term)). Contains xs a.args) (sym split) (Contains-append_left (rows_of left) (row.0 ∷ []) a.args one.2))
+      ],
+      λ h. elim h [
+        | inl before ↦ inl ((g initiates a).1 (inl before))
+        | inr one ↦ elim (Contains-push_cases (rows_of left) row.0 a.args (subst (λ (xs : List (List Term)). Contains xs a.args) split one.2)) [
+          | inl later ↦ inr (one.0, one.1, later)
+          | inr same ↦ inl ((g initiates a).1 (inr (one.0, λ i. record { name = one.1 i; args = sym same i })))
+        ]
+      ],
+    )
+
+-- where no row is left all are added
+pub rows_all : (old new : Given) (kind : Bool) (name : List ℕ) (rows left : List Values) → left ≡ [] →
+    ((initiates : Bool) (a : Atom) → IsThereOrLeft new kind name left initiates a ↔ IsThereOrLeft old kind name rows initiates a) → Adds old new (IsOfRowAs kind name (rows_of rows))
+rows_all old new kind name rows left none same initiates a = (
+  λ h. (same initiates a).0 (inl h),
+  λ h. elim ((same initiates a).1 h) [ inl there ↦ there | inr one ↦ absurd (nothing_contained a.args (subst (λ (vs : List Values). Contains (rows_of vs) a.args) none one.2)) ],
+)

@@ -30,7 +30,7 @@ use Rattle.lps_meaning.specs.Holds.{Causes, Holds, IsTrueOver}
 use Rattle.lps_model.specs.Rules.{kind_of}
 use Rattle.lps_meaning.proofs.Persistence.{agrees_same, start_law, update_law}
 use Rattle.lps_causal.specs.Names.{AreEvents, AreFluents}
-use Rattle.lps_causal.proofs.Placed.{condition_kind, event_kind, fluent_kind, head_kind, initial_kind, law_condition_kind}
+use Rattle.lps_causal.proofs.Placed.{condition_kind, fluent_kind, head_kind, initial_kind}
 
 -- ---- kinds
 
@@ -53,14 +53,6 @@ of_condition k.Timeless h = refl
 of_condition k.Event h = absurd (cc)
 of_condition k.Action h = absurd (cc)
 of_condition k.Macro h = absurd (cc)
-
-of_event : (kind : Kind) → may_stand Trigger kind ≡ true → happens (Some kind) ≡ true
-of_event k.Event h = refl
-of_event k.Action h = refl
-of_event k.Fluent h = absurd (cc)
-of_event k.Derived h = absurd (cc)
-of_event k.Timeless h = absurd (cc)
-of_event k.Macro h = absurd (cc)
 
 of_timeless : (kind : Kind) → may_stand TimelessCondition kind ≡ true → (is_condition (Some kind) ≡ true) × (is_timeless (Some kind) ≡ true)
 of_timeless k.Timeless h = (refl, refl)
@@ -122,29 +114,7 @@ not_both (Some k.Event) e h = cc
 not_both (Some k.Action) e h = cc
 not_both (Some k.Macro) e h = cc
 
--- ---- conditions
-
--- conditions whose atoms are true over the one where they are over the other
-pub met_between : (One Two : Atom → Type 0) (conds : List Cond) → ((l : Lit) → Contains conds (c.Lit l) → One l.atom ↔ Two l.atom) →
-    AllByRecursion (IsMet (Passes is_true) One) conds → AllByRecursion (IsMet (Passes is_true) Two) conds
-met_between One Two [] same met = tt
-met_between One Two (c.Lit l ∷ conds) same met = (
-  agrees_same l.negated (One l.atom) (Two l.atom) (same l (first_is_contained (c.Lit l) conds)) met.0,
-  met_between One Two conds (λ m among. same m (later_is_contained (c.Lit l) conds (c.Lit m) among)) met.1,
-)
-met_between One Two (c.Built b ∷ conds) same met = (met.0, met_between One Two conds (λ m among. same m (later_is_contained (c.Built b) conds (c.Lit m) among)) met.1)
-
 module _ (text : Text) (accepted : IsAccepted text) where
-  -- ---- laws
-
-  -- the event of a law may happen
-  pub law_has_event : (law : Law) → Contains (laws text) law → happens (kind_of text law.event.name) ≡ true
-  law_has_event law at = let found = event_kind text accepted law at in ap happens found.is ∙ of_event found.kind found.may
-
-  -- and its conditions are made of fluents, derived and timeless predicates
-  pub law_has_conditions : (law : Law) → Contains (laws text) law → (l : Lit) → Contains law.conds (c.Lit l) → is_condition (kind_of text l.atom.name) ≡ true
-  law_has_conditions law at l among = let found = law_condition_kind text accepted law at l among in ap is_condition found.is ∙ of_condition found.kind found.may
-
   -- ---- names that clauses do not leave
 
   conditions_are_closed : AreClosed (clauses text) (λ name. is_condition (kind_of text name))

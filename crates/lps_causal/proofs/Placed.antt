@@ -80,13 +80,6 @@ module _ (text : Text) (accepted : IsAccepted text) where
       (Contains-append_right (in_atom line Head k.head) (in_conds line place k.conds) (occurrence line place l.atom) (lit_occurs line place k.conds l among))
 
   module _ (law : Law) (at : Contains (laws text) law) where
-    pub event_kind : HasKindAt text Trigger law.event.name
-    event_kind =
-        let stated = law_stated text law at in
-        let line = stated.statement.line in
-        kind_at text accepted (b.Law law.initiates law.event law.fluent law.conds) stated (occurrence line Trigger law.event)
-        (first_is_contained (occurrence line Trigger law.event) (in_atom line Effect law.fluent ++ in_conds line Condition law.conds))
-
     pub fluent_kind : HasKindAt text Effect law.fluent.name
     fluent_kind =
         let stated = law_stated text law at in
@@ -94,14 +87,6 @@ module _ (text : Text) (accepted : IsAccepted text) where
         kind_at text accepted (b.Law law.initiates law.event law.fluent law.conds) stated (occurrence line Effect law.fluent)
         (Contains-append_right (in_atom line Trigger law.event) (in_atom line Effect law.fluent ++ in_conds line Condition law.conds) (occurrence line Effect law.fluent)
         (first_is_contained (occurrence line Effect law.fluent) (in_conds line Condition law.conds)))
-
-    pub law_condition_kind : (l : Lit) → Contains law.conds (c.Lit l) → HasKindAt text Condition l.atom.name
-    law_condition_kind l among =
-        let stated = law_stated text law at in
-        let line = stated.statement.line in
-        kind_at text accepted (b.Law law.initiates law.event law.fluent law.conds) stated (occurrence line Condition l.atom)
-        (Contains-append_right (in_atom line Trigger law.event) (in_atom line Effect law.fluent ++ in_conds line Condition law.conds) (occurrence line Condition l.atom)
-        (Contains-append_right (in_atom line Effect law.fluent) (in_conds line Condition law.conds) (occurrence line Condition l.atom) (lit_occurs line Condition law.conds l among)))
 
   initial_of_body : (body : Body) (a : Atom) → Contains (initial_in body) a → (stated : IsStated text body) → HasKindAt text Initial a.name
   initial_of_body (b.Initially atoms) a within stated =

@@ -1,5 +1,5 @@
--- Fluents and events in one set, and the effects that two sets of fluents make up.
-use Rattle.std.proofs.Common.{ℕ, Bool, true, false, cond, ◌≡◌, ◌<◌, List, [], length, refl, sym, ap, ◌∙◌, subst, inl, inr}
+-- The effects that are made of the fluents that laws give.
+use Rattle.std.proofs.Common.{ℕ, Bool, true, false, cond, ◌≡◌, List, [], refl, sym, ap, ◌∙◌, subst, inl, inr}
 use Rattle.std.specs.Prelude.{◌⊎◌, ◌↔◌, ◌&&◌, not, Contains}
 use Rattle.std.specs.List.{filter}
 use Rattle.std.specs.List.Sorted.{IsStrictlySortedBy}
@@ -14,19 +14,17 @@ use Rattle.lps_facts.specs.Facts.{TrailedSet, is_among, members, with_facts}
 use Rattle.lps_facts.proofs.Sequences.{members_with_all}
 use Rattle.lps_model.specs.Acceptance.{IsAccepted}
 use Rattle.lps_model.specs.Formed.{is_formed}
-use Rattle.lps_model.specs.Program.{Law, laws}
 use Rattle.lps_model.proofs.Elements.{nothing_contained}
 use Rattle.lps_model.specs.Clauses.{clauses}
 use Rattle.lps_derivation.specs.Levels.{AreLevels}
 use Rattle.lps_meaning.specs.Holds.{Causes}
-use Rattle.lps_solve.specs.Met.{AreGround}
 use Rattle.lps_solve.proofs.Accepted.{accepted_is_sound}
 use Rattle.lps_solve.proofs.Facts.{among_contains, contains_among}
 use Rattle.lps_causal.specs.Effects.{AreEffects}
-use Rattle.lps_causal.specs.Given.{ByOne, GainsBy, GivesAs}
-use Rattle.lps_causal.specs.Names.{AreEvents, AreFluents}
-use Rattle.lps_causal.specs.Table.{IsNamed, law_at}
-use Rattle.lps_causal.proofs.Causing.{caused_by_places, caused_fluent}
+use Rattle.lps_causal.specs.declared.given.Given.{Given}
+use Rattle.lps_causal.specs.Given.{AreGiven, IsSettled, fluents_of}
+use Rattle.lps_causal.specs.Names.{AreFluents}
+use Rattle.lps_causal.proofs.Causing.{IsGiven, caused_fluent, given_causes}
 
 -- ---- events put into facts
 
@@ -56,12 +54,6 @@ mixed_with facts events a =
       ]),
     )
 
--- fluents together with events are ground
-pub mixed_ground : (text : Text) (facts events both : List Atom) → AreFluents text facts → AreEvents text events → ((a : Atom) → Contains both a ↔ (Contains facts a ⊎ Contains events a)) →
-    (a : Atom) → Contains both a → AreGround a.args
-mixed_ground text facts events both fluents happening mixed a h =
-    elim ((mixed a).0 h) [ inl fact ↦ (fluents.each a fact).ground | inr event ↦ (happening.each a event).ground ]
-
 -- ---- initiation wins
 
 kept_cases : (gone held : Bool) → (not gone && held) ≡ true → (held ≡ true) × (gone ≡ true → ⊥)
@@ -83,60 +75,40 @@ kept_is gone held a =
           (said ∙ kept_so (is_among gone a) (is_among held a) (λ g. h.1 (contains_among a gone g)) (among_contains a held h.0)),
     )
 
-module _ (text : Text) (accepted : IsAccepted text) (formed : is_formed text ≡ true) (facts events both : List Atom) (fluents : AreFluents text facts)
-    (happening : AreEvents text events) (mixed : (a : Atom) → Contains both a ↔ (Contains facts a ⊎ Contains events a)) (places : List ℕ)
-    (are : (i : ℕ) → Contains places i ↔ ((i < length (laws text)) × IsNamed events (law_at (laws text) i).event.name)) where
-  abbrev GivenAt : Bool → (List ℕ → ℕ) → Atom → Type 0
-  GivenAt initiates level = ByOne places (λ i. GivesAs initiates (clauses text) both level (law_at (laws text) i))
+-- effects that are made of lists in order are settled
+pub is_settled : (given : Given) (begun ended others : List Atom) → IsStrictlySortedBy atom_cmp begun → IsStrictlySortedBy atom_cmp ended →
+    ((a : Atom) → Contains begun a ↔ Contains given.initiated.items a) → ((a : Atom) → Contains ended a ↔ Contains given.terminated.items a) →
+    others ≡ filter (λ a. not (is_among begun a)) ended → (effects : Effects) → effects.initiated ≡ begun → effects.terminated ≡ others → IsSettled given effects
+is_settled given begun ended others begun_sorted ended_sorted begun_same ended_same are effects initiated terminated =
+    let rest : effects.terminated ≡ filter (λ a. not (is_among begun a)) ended = terminated ∙ are in
+    record {
+      initiated = λ a. subst (λ (atoms : List Atom). Contains atoms a ↔ Contains given.initiated.items a) (sym initiated) (begun_same a);
+      terminated = λ a. subst (λ (atoms : List Atom). Contains atoms a ↔ (Contains given.terminated.items a × (Contains given.initiated.items a → ⊥))) (sym rest) (
+        (λ h. let kept = (kept_is begun ended a).0 h in ((ended_same a).0 kept.0, λ new. kept.1 ((begun_same a).1 new))),
+        (λ h. (kept_is begun ended a).1 ((ended_same a).1 h.0, λ new. h.1 ((begun_same a).0 new))),
+      );
+      initiated_sorted = subst (IsStrictlySortedBy atom_cmp) (sym initiated) begun_sorted;
+      terminated_sorted = subst (IsStrictlySortedBy atom_cmp) (sym rest) (IsStrictlySortedBy-filter atom_cmp (λ a. not (is_among begun a)) ended ended_sorted);
+    }
 
-  gained_is_caused : (initiates : Bool) (set : List Atom) → GainsBy (clauses text) [] set (GivenAt initiates) → (level : List ℕ → ℕ) → AreLevels (clauses text) level → (a : Atom) →
-      Contains set a ↔ Causes text level initiates (Contains facts) events a
-  gained_is_caused initiates set gained level levels a =
-      let one = gained level levels a in
-      let same = caused_by_places text accepted formed facts events both fluents happening mixed level places (λ i h. ((are i).0 h).0) (λ i lt named. (are i).1 (lt, named)) initiates a in (
-        λ h. elim (one.0 h) [ inl none ↦ absurd (nothing_contained a none) | inr given ↦ same.0 given ],
-        λ h. one.1 (inr (same.1 h)),
-      )
-
-  module _ (begun ended : List Atom) (effects : Effects) (first : GainsBy (clauses text) [] begun (GivenAt true)) (second : GainsBy (clauses text) [] ended (GivenAt false))
-      (first_sorted : IsStrictlySortedBy atom_cmp begun) (second_sorted : IsStrictlySortedBy atom_cmp ended)
-      (initiated : effects.initiated ≡ begun) (terminated : effects.terminated ≡ filter (λ a. not (is_among begun a)) ended) where
-    pub are_effects : (level : List ℕ → ℕ) → AreLevels (clauses text) level → AreEffects text level facts events effects
-    are_effects level levels =
-        let new = gained_is_caused true begun first level levels in
-        let old = gained_is_caused false ended second level levels in
-        record {
-          initiated = λ a. subst (λ (atoms : List Atom). Contains atoms a ↔ Causes text level true (Contains facts) events a) (sym initiated) (new a);
-          terminated = λ a. subst (λ (atoms : List Atom). Contains atoms a ↔ (Causes text level false (Contains facts) events a × (Causes text level true (Contains facts) events a → ⊥)))
-              (sym terminated) (
-                (λ h. let kept = (kept_is begun ended a).0 h in ((old a).0 kept.0, λ cause. kept.1 ((new a).1 cause))),
-                (λ h. (kept_is begun ended a).1 ((old a).1 h.0, λ among. h.1 ((new a).0 among))),
-              );
-          initiated_sorted = subst (IsStrictlySortedBy atom_cmp) (sym initiated) first_sorted;
-          terminated_sorted = subst (IsStrictlySortedBy atom_cmp) (sym terminated) (IsStrictlySortedBy-filter atom_cmp (λ a. not (is_among begun a)) ended second_sorted);
-        }
-
--- what the calls come to
-pub are_made : (text : Text) → IsAccepted text → is_formed text ≡ true → (facts : TrailedSet) (events : List Atom) (after : TrailedSet) → AreFluents text (members facts) → AreEvents text events →
-    after ≡ with_facts true events facts → (all : List Law) → all ≡ laws text → (places : List ℕ) → ((i : ℕ) → Contains places i ↔ ((i < length all) × IsNamed events (law_at all i).event.name)) →
-    (one other : List ℕ) → one ≡ places → other ≡ places → (begun ended : List Atom) →
-    GainsBy (clauses text) [] begun (λ level. ByOne one (λ i. GivesAs true (clauses text) (members after) level (law_at all i))) →
-    GainsBy (clauses text) [] ended (λ level. ByOne other (λ i. GivesAs false (clauses text) (members after) level (law_at all i))) →
-    IsStrictlySortedBy atom_cmp begun → IsStrictlySortedBy atom_cmp ended → (effects : Effects) → effects.initiated ≡ begun → effects.terminated ≡ filter (λ a. not (is_among begun a)) ended →
-    (level : List ℕ → ℕ) → AreLevels (clauses text) level → AreEffects text level (members facts) events effects
-are_made text accepted formed facts events after fluents happening put all same places are one other first second begun ended first_given second_given first_sorted second_sorted effects initiated terminated =
-    let mixed : (a : Atom) → Contains (members after) a ↔ (Contains (members facts) a ⊎ Contains events a) =
-    subst (λ (set : TrailedSet). (a : Atom) → Contains (members set) a ↔ (Contains (members facts) a ⊎ Contains events a)) (sym put) (mixed_with facts events) in
-    are_effects text accepted formed (members facts) events (members after) fluents happening mixed places
-    (subst (λ (ls : List Law). (i : ℕ) → Contains places i ↔ ((i < length ls) × IsNamed events (law_at ls i).event.name)) same are)
-    begun ended effects
-    (moved true one first begun first_given) (moved false other second ended second_given) first_sorted second_sorted initiated terminated
-  where
-    moved : (initiates : Bool) (these : List ℕ) → these ≡ places → (set : List Atom) → GainsBy (clauses text) [] set (λ level. ByOne these (λ i. GivesAs initiates (clauses text) (members after) level (law_at all i))) →
-        GainsBy (clauses text) [] set (λ level. ByOne places (λ i. GivesAs initiates (clauses text) (members after) level (law_at (laws text) i)))
-    moved initiates these is set given =
-        subst (λ (ls : List Law). GainsBy (clauses text) [] set (λ level. ByOne places (λ i. GivesAs initiates (clauses text) (members after) level (law_at ls i)))) same
-        (subst (λ (xs : List ℕ). GainsBy (clauses text) [] set (λ level. ByOne xs (λ i. GivesAs initiates (clauses text) (members after) level (law_at all i)))) is given)
+-- settled effects of what is given are the effects of the events
+pub are_effects : (text : Text) → is_formed text ≡ true → (facts events : List Atom) (given : Given) →
+    AreGiven (clauses text) given (λ level initiates. IsGiven text level facts events initiates) → (effects : Effects) → IsSettled given effects →
+    (level : List ℕ → ℕ) → AreLevels (clauses text) level → AreEffects text level facts events effects
+are_effects text formed facts events given are effects settled level levels =
+    let caused : (initiates : Bool) (a : Atom) → Contains (fluents_of initiates given) a ↔ Causes text level initiates (Contains facts) events a = λ initiates a.
+    let one = are level levels initiates a in
+    let same = given_causes text level facts events initiates a formed in
+    ((λ h. same.0 (one.0 h)), (λ h. one.1 (same.1 h))) in
+    record {
+      initiated = λ a. ((λ h. (caused true a).0 ((settled.initiated a).0 h)), (λ h. (settled.initiated a).1 ((caused true a).1 h)));
+      terminated = λ a. (
+        (λ h. let both = (settled.terminated a).0 h in ((caused false a).0 both.0, λ begins. both.1 ((caused true a).1 begins))),
+        (λ h. (settled.terminated a).1 ((caused false a).1 h.0, λ begun. h.1 ((caused true a).0 begun))),
+      );
+      initiated_sorted = settled.initiated_sorted;
+      terminated_sorted = settled.terminated_sorted;
+    }
 
 -- effects are fluents
 pub effects_are_fluents : (text : Text) → IsAccepted text → is_formed text ≡ true → (facts events : List Atom) (effects : Effects) →

@@ -41,19 +41,19 @@ sorted_with_effects effects facts sorted =
 -- ---- what stands in the set
 
 -- the parts of `new || (held && not gone)`
-put_or_kept : (new held gone : Bool) → (new || (held && not gone)) ≡ true → (new ≡ true) ⊎ ((held ≡ true) × (gone ≡ true → ⊥))
+pub put_or_kept : (new held gone : Bool) → (new || (held && not gone)) ≡ true → (new ≡ true) ⊎ ((held ≡ true) × (gone ≡ true → ⊥))
 put_or_kept true held gone h = inl refl
 put_or_kept false true false h = inr (refl, λ e. cc)
 put_or_kept false true true h = absurd (cc)
 put_or_kept false false gone h = absurd (cc)
 
-kept_or_gone : (new held gone : Bool) → held ≡ true → (gone ≡ true → new ≡ true) → (new || (held && not gone)) ≡ true
+pub kept_or_gone : (new held gone : Bool) → held ≡ true → (gone ≡ true → new ≡ true) → (new || (held && not gone)) ≡ true
 kept_or_gone true held gone h back = refl
 kept_or_gone false true false h back = refl
 kept_or_gone false true true h back = absurd (let no : false ≡ true = back refl in cc)
 kept_or_gone false false gone h back = absurd (cc)
 
-put_in : (new held gone : Bool) → new ≡ true → (new || (held && not gone)) ≡ true
+pub put_in : (new held gone : Bool) → new ≡ true → (new || (held && not gone)) ≡ true
 put_in true held gone h = refl
 put_in false held gone h = absurd (cc)
 
@@ -81,7 +81,7 @@ module _ (text : Text) (level : List ℕ → ℕ) (trace : Trace) (cycle : Cycle
   }
 
   -- over the listed state the cycle causes what it causes in the trace
-  caused : (facts : List Atom) → IsState text level trace now facts → (initiates : Bool) (a : Atom) →
+  pub caused : (facts : List Atom) → IsState text level trace now facts → (initiates : Bool) (a : Atom) →
       Causes text level initiates (Contains facts) (happens_in cycle) a ↔ CausedIn text level longer (Holds text level longer) initiates (suc now) a
   caused facts state initiates a =
       let there = (state_stays facts state).exact in (

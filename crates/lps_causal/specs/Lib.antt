@@ -1,5 +1,5 @@
 pub mod Names
 pub mod Effects
-pub mod Asked
-pub mod Table
+pub mod Laws
 pub mod Given
+pub mod Next

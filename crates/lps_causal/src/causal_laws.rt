@@ -1,39 +1,33 @@
-ghost use Rattle.std.specs.Prelude.{◌≡◌, ◌<◌, ◌++◌, ◌∷◌, [], ◌↔◌, ◌⊎◌, ℕ, List, IfOk, OnOk, IfSome, length, Contains, Bool, true, false};
-ghost use Rattle.std.specs.BTreeSet.{IsOrdered};
-ghost use Rattle.std.specs.List.{filter};
+ghost use Rattle.std.specs.Prelude.{◌≡◌, ◌≤◌, ◌<◌, ◌++◌, ◌∷◌, [], ℕ, List, IfOk, OnOk, length, Contains};
 ghost use Rattle.lps_terms.specs.declared.atom.Atom.{Atom as Fluent};
-ghost use Rattle.lps_terms.specs.Order.{atom_cmp};
+ghost use Rattle.lps_terms.specs.Symbols.{atom_symbols_of};
 ghost use Rattle.lps_model.specs.Program.{law_in, laws};
 ghost use Rattle.lps_model.specs.Clauses.{clauses};
 ghost use Rattle.lps_derivation.specs.Levels.{AreLevels};
-ghost use Rattle.lps_facts.specs.Facts.{IsLater, members, with_facts};
+ghost use Rattle.lps_facts.specs.Facts.{members};
 ghost use Rattle.lps_solve.specs.Met.{AreGround};
-ghost use Rattle.lps_solve.specs.Table.{IsWithPlace};
-ghost use Rattle.lps_causal.specs.Asked.{IsAsked, law_of};
 ghost use Rattle.lps_causal.specs.Effects.{AreEffects};
-ghost use Rattle.lps_causal.specs.Given.{ByOne, GainsBy, GivesAs};
+ghost use Rattle.lps_causal.specs.Given.{AddsBy, AreGiven, ByOne, GivesAs};
+ghost use Rattle.lps_causal.specs.Laws.{IsCounted, law_at, law_of};
 ghost use Rattle.lps_causal.specs.Names.{AreEvents, AreFluents};
-ghost use Rattle.lps_causal.specs.Table.{IsNamed, IsPlaceOf, law_at};
 
-use crate::asking::law_to_ask;
-use crate::causal_law::CausalLaw;
-use crate::rows::note_rows;
+use crate::causal_law::{CausalLaw, copy_law};
+use crate::given::Given;
+use crate::giving::add_by_law;
 use crate::settling::settled;
-use indexmap::IndexMap;
 use lps_facts::Facts;
-use lps_solve::{Program, answers};
-use lps_terms::{Atom, Body, Cond, Effects, Name, Text};
-use lps_unify::Bindings;
+use lps_solve::Program;
+use lps_terms::{Atom, Body, Cond, Effects, Text, atom_symbols};
 use std::alloc::{AllocError, Global};
-use std::collections::BTreeSet;
 use std::marker::Model;
 
-/// The causal laws of a text, found by the names of their events. Contracts see the list of the laws, in text order.
+/// How many symbols an atom of an instance may have.
+const MOST_SYMBOLS: u64 = 1024;
+
+/// The causal laws of a text. Contracts see the list of the laws, in text order.
 #[derive(Drop)]
 pub struct CausalLaws {
     laws: Vec<CausalLaw>,
-    /// For each name, which laws have it in their events.
-    table: Table,
 }
 
 impl Model for CausalLaws {
@@ -41,9 +35,9 @@ impl Model for CausalLaws {
     ghost use Rattle.lps_terms.specs.contracts.term.Term as term;
     ghost use Rattle.lps_model.specs.Program.{Law};
     ghost use Rattle.std.specs.Coded.{codes};
+    ghost use Rattle.std.specs.List.{AllByRecursion};
     ghost use Rattle.std.specs.Prelude.{List, map};
-    ghost use Rattle.lps_causal.specs.Asked.{law_of};
-    ghost use Rattle.lps_causal.specs.Table.{IsTable};
+    ghost use Rattle.lps_causal.specs.Laws.{IsCounted, law_of};
 
     ghost Value = { List Law };
 
@@ -51,7 +45,7 @@ impl Model for CausalLaws {
 
     ghost view = { λ it. map law_of it.laws.items };
 
-    ghost invariant = { λ it. IsTable it.laws.items it.table.entries };
+    ghost invariant = { λ it. AllByRecursion IsCounted it.laws.items };
 }
 
 impl CausalLaws {
@@ -61,7 +55,6 @@ impl CausalLaws {
     {
         let mut it = CausalLaws {
             laws: Vec::new(alloc),
-            table: IndexMap::new(alloc),
         };
         for statement in text.statements.as_slice() {
             it = it.with_body(alloc, &statement.body)?;
@@ -94,35 +87,24 @@ impl CausalLaws {
     ) -> Result<CausalLaws, AllocError>
         ensures { IfOk result (λ it. it ≡ self ++ record { initiates = initiates; event = event.now; fluent = fluent.now; conds = conds.now } ∷ []) }
     {
-        let CausalLaws { mut laws, table } = self;
-        let table = with_place(alloc, table, &event.name, laws.len())?;
-        let law = law_to_ask(alloc, initiates, event, fluent, conds)?;
+        let CausalLaws { mut laws } = self;
+        let law = copy_law(alloc, initiates, event, fluent, conds)?;
         laws.push(law)?;
-        Ok(CausalLaws { laws, table })
-    }
-
-    /// The places of the laws with this name in their events.
-    fn places(&self, name: &Name) -> &[usize]
-        ensures { (i : ℕ) → Contains result.now i ↔ IsPlaceOf self.now name.now i }
-    {
-        match self.table.get(name) {
-            Some(places) => places.as_slice(),
-            None => &[],
-        }
+        Ok(CausalLaws { laws })
     }
 
     /// The law at a place.
     fn law(&self, at: usize) -> &CausalLaw
         requires { at < length self.now }
         ensures law { law_of result.now ≡ law_at self.now at }
-        ensures asked { IsAsked result.now }
+        ensures counted { IsCounted result.now }
     {
         &self.laws[at]
     }
 
     /// The effects of events by these laws, which are those of the program: exactly the fluents that are initiated, and
     /// those that are terminated and not initiated, each once and in order. The conditions are read in the state that the
-    /// facts are, with none of the effects. The facts are as before on every way out.
+    /// facts are, with none of the effects.
     ///
     /// Each fact is a ground atom of a fluent of the program's text, and each event one of an event or an action. An error
     /// comes where memory runs out.
@@ -130,147 +112,83 @@ impl CausalLaws {
         &self,
         alloc: Global,
         program: &Program,
-        facts: &mut Facts,
+        facts: &Facts,
         events: &[Atom],
     ) -> Result<Effects, AllocError>
         requires laws { self.now ≡ laws program.now }
         requires state { AreFluents program.now (members facts.now) }
         requires events { AreEvents program.now events.now }
-        ensures effects { IfOk result (λ effects. (level : List ℕ → ℕ) → AreLevels (clauses program.now) level → AreEffects program.now level (members facts.old) events.now effects) }
+        ensures effects { IfOk result (λ effects. (level : List ℕ → ℕ) → AreLevels (clauses program.now) level → AreEffects program.now level (members facts.now) events.now effects) }
         ensures fluents { IfOk result (λ effects. AreFluents program.now effects.initiated × AreFluents program.now effects.terminated) }
-        ensures same { facts.new ≡ facts.old }
-    {
-        let mark = facts.mark();
-        let found = self.effects_beside(alloc, program, facts, events);
-        facts.undo_to(&mark);
-        found
-    }
-
-    /// The same, with the events left beside the facts.
-    fn effects_beside(
-        &self,
-        alloc: Global,
-        program: &Program,
-        facts: &mut Facts,
-        events: &[Atom],
-    ) -> Result<Effects, AllocError>
-        requires laws { self.now ≡ laws program.now }
-        requires state { AreFluents program.now (members facts.now) }
-        requires events { AreEvents program.now events.now }
-        ensures effects { IfOk result (λ effects. (level : List ℕ → ℕ) → AreLevels (clauses program.now) level → AreEffects program.now level (members facts.old) events.now effects) }
-        ensures fluents { IfOk result (λ effects. AreFluents program.now effects.initiated × AreFluents program.now effects.terminated) }
-        ensures later { IsLater facts.old facts.new }
     {
         program.lawful();
-        facts.insert_all(events)?;
-        let places = self.places_of_all(alloc, events)?;
-        let initiated = self.given(alloc, program, facts, places.as_slice(), true)?;
-        let terminated = self.given(alloc, program, facts, places.as_slice(), false)?;
-        settled(alloc, initiated, terminated)
+        let given = self.given(alloc, program, facts, events)?;
+        settled(given)
     }
 
-    /// The places of the laws of some events, each once.
-    fn places_of_all(&self, alloc: Global, events: &[Atom]) -> Result<Vec<usize>, AllocError>
-        ensures { IfOk result (λ places. (i : ℕ) → Contains places.items i ↔ ((i < length self.now) × IsNamed events.now (law_at self.now i).event.name)) }
-    {
-        let mut places = BTreeSet::new(alloc);
-        for event in events {
-            note_places(self.places(&event.name), &mut places)?;
-        }
-        in_order(alloc, places)
-    }
-
-    /// The fluents that the laws of one kind at some places give.
+    /// The fluents that the laws give for events.
     fn given(
         &self,
         alloc: Global,
         program: &Program,
         facts: &Facts,
-        places: &[usize],
-        initiates: bool,
-    ) -> Result<BTreeSet<Atom>, AllocError>
+        events: &[Atom],
+    ) -> Result<Given, AllocError>
         requires laws { self.now ≡ laws program.now }
-        requires ground { (a : Fluent) → Contains (members facts.now) a → AreGround a.args }
-        requires places { (i : ℕ) → Contains places.now i → i < length self.now }
-        ensures given { IfOk result (λ found. GainsBy (clauses program.now) [] found.keys (λ level. ByOne places.now (λ i. GivesAs initiates (clauses program.now) (members facts.now) level (law_at self.now i)))) }
-        ensures ordered { IfOk result (λ found. IsOrdered atom_cmp found) }
+        requires state { AreFluents program.now (members facts.now) }
+        requires events { AreEvents program.now events.now }
+        ensures { IfOk result (λ given. AreGiven (clauses program.now) given (λ level initiates. ByOne events.now (λ event. ByOne (laws program.now) (GivesAs (clauses program.now) (members facts.now) level event initiates)))) }
     {
-        let mut found = BTreeSet::new(alloc);
-        for place in places {
-            note_law(
-                alloc,
-                program,
-                facts,
-                self.law(*place),
-                initiates,
-                &mut found,
-            )?;
+        let mut given = Given::new(alloc);
+        for event in events {
+            self.add_by_event(alloc, program, facts, event, &mut given)?;
         }
-        let _count = found.len();
-        Ok(found)
+        Ok(given)
     }
-}
 
-/// Adds the fluents that a law gives, where it is of this kind.
-fn note_law(
-    alloc: Global,
-    program: &Program,
-    facts: &Facts,
-    law: &CausalLaw,
-    initiates: bool,
-    found: &mut BTreeSet<Atom>,
-) -> Result<(), AllocError>
-    requires asked { IsAsked law.now }
-    requires law { Contains (laws program.now) (law_of law.now) }
-    requires ground { (a : Fluent) → Contains (members facts.now) a → AreGround a.args }
-    ensures { OnOk result (GainsBy (clauses program.now) found.old.keys found.new.keys (λ level. GivesAs initiates (clauses program.now) (members facts.now) level (law_of law.now))) }
-{
-    if law.initiates != initiates {
-        return Ok(());
+    /// Adds the fluents that the laws give for an event.
+    fn add_by_event(
+        &self,
+        alloc: Global,
+        program: &Program,
+        facts: &Facts,
+        event: &Atom,
+        given: &mut Given,
+    ) -> Result<(), AllocError>
+        requires laws { self.now ≡ laws program.now }
+        requires state { (a : Fluent) → Contains (members facts.now) a → AreGround a.args }
+        requires event { AreGround event.now.args }
+        ensures { OnOk result (AddsBy (clauses program.now) given.old given.new (λ level initiates. ByOne (laws program.now) (GivesAs (clauses program.now) (members facts.now) level event.now initiates))) }
+    {
+        if atom_symbols(event) > MOST_SYMBOLS {
+            return Ok(());
+        }
+        let found = program.index().laws_for(event);
+        self.add_by_laws(alloc, program, facts, found.keyed, event, given)?;
+        self.add_by_laws(alloc, program, facts, found.others, event, given)
     }
-    program.lawful();
-    let mut bindings = Bindings::new(alloc, law.variables + 1)?;
-    let rows = answers(alloc, program, facts, law.asked.as_slice(), &mut bindings)?;
-    note_rows(alloc, rows, found)
-}
 
-/// Adds these places.
-fn note_places(more: &[usize], places: &mut BTreeSet<usize>) -> Result<(), AllocError>
-    ensures { OnOk result ((i : ℕ) → Contains places.new.keys i ↔ (Contains places.old.keys i ⊎ Contains more.now i)) }
-{
-    for place in more {
-        places.insert(*place)?;
+    /// Adds the fluents that the laws at some places give for an event of their name.
+    fn add_by_laws(
+        &self,
+        alloc: Global,
+        program: &Program,
+        facts: &Facts,
+        places: &[usize],
+        event: &Atom,
+        given: &mut Given,
+    ) -> Result<(), AllocError>
+        requires laws { self.now ≡ laws program.now }
+        requires places { (i : ℕ) → Contains places.now i → (i < length (laws program.now)) × ((law_at (laws program.now) i).event.name ≡ event.now.name) }
+        requires state { (a : Fluent) → Contains (members facts.now) a → AreGround a.args }
+        requires event { AreGround event.now.args }
+        requires small { atom_symbols_of event.now ≤ 1024 }
+        ensures { OnOk result (AddsBy (clauses program.now) given.old given.new (λ level initiates. ByOne places.now (λ i. GivesAs (clauses program.now) (members facts.now) level event.now initiates (law_at (laws program.now) i)))) }
+    {
+        for place in places {
+            let law = self.law(*place);
+            add_by_law(alloc, program, facts, law, event, given)?;
+        }
+        Ok(())
     }
-    Ok(())
-}
-
-fn in_order(alloc: Global, places: BTreeSet<usize>) -> Result<Vec<usize>, AllocError>
-    ensures { IfOk result (λ ordered. ordered.items ≡ places.keys) }
-{
-    let mut ordered = Vec::new(alloc);
-    for place in places {
-        ordered.push(place)?;
-    }
-    Ok(ordered)
-}
-
-type Table = IndexMap<Name, Vec<usize>>;
-
-/// The table with one place more for a name.
-fn with_place(
-    alloc: Global,
-    mut table: Table,
-    name: &Name,
-    place: usize,
-) -> Result<Table, AllocError>
-    ensures { IfOk result (λ new. IsWithPlace name.now place table.entries new.entries) }
-{
-    let name = name.copy(alloc)?;
-    let mut places = match table.swap_remove(&name) {
-        Some(places) => places,
-        None => Vec::new(alloc),
-    };
-    places.push(place)?;
-    table.insert(name, places)?;
-    Ok(table)
 }

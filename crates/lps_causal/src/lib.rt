@@ -1,13 +1,13 @@
 //! The effects of events by the causal laws of a text.
 //!
-//! It stands on answers by clauses, on facts that can be taken back, and on the meaning of laws, and knows nothing of denials,
-//! of goals or of a run. Its theorem is that `CausalLaws::effects` gives exactly the fluents that the events initiate, and
-//! those that they terminate and do not initiate, read in the state before (clause `effects`), and leaves the facts as they
-//! were on every way out (clause `same`); and that such effects make the next state of this one
-//! (`effects_make_the_next_state`).
+//! It stands on the instances of conditions over a set of facts, on the index of a text, and on the meaning of laws, and knows
+//! nothing of denials, of goals or of a run. Its theorem is that `CausalLaws::effects` gives exactly the fluents that the events
+//! initiate, and those that they terminate and do not initiate, read in the state before (clause `effects`); that such effects
+//! make the next state of this one (`effects_make_the_next_state`), and that those of more events are made on top of those before
+//! (`effects_add_up`).
 //!
-//! The events are put beside the facts, and each law whose event has the name of one of them is asked about: under which
-//! values its event is there and its conditions are true, and which term its fluent is then.
+//! For each event the index finds the laws whose event may be this one. Such a law's event is unified with it, and then the law is
+//! asked for the instances of its conditions, and for what the arguments of its fluent are in them.
 //!
 //! Contracts cite these definitions:
 //!
@@ -15,17 +15,17 @@
 //! |---|---|
 //! | `Names` | which facts may be a state of a text, and which events may happen |
 //! | `Effects` | the effects of events in a state |
-//! | `Asked` | what is asked for a law, and the law of what is asked |
-//! | `Table` | where the laws of each event stand |
-//! | `Given` | what a law gives over facts and events in one set |
+//! | `Laws` | the laws of a text as they are kept, each with the number of its variables |
+//! | `Given` | what a law gives for an event over a set of facts, and what all laws give for some events |
+//! | `Next` | the state after events by the state before them, and which facts are the next state of a trace |
 #![tactic(auto)]
 
-mod asking;
 mod causal_law;
 mod causal_laws;
+mod given;
+mod giving;
 mod laws;
-mod rows;
 mod settling;
 
 pub use causal_laws::CausalLaws;
-pub use laws::effects_make_the_next_state;
+pub use laws::{effects_add_up, effects_make_the_next_state};

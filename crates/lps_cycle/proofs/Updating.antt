@@ -1,11 +1,9 @@
 -- One cycle: the events that are judged, and the facts after those that are admitted.
 use Rattle.std.proofs.Common.{ℕ, suc, ◌≡◌, ◌≤◌, ◌<◌, ◌+◌, Bool, true, false, List, [], ◌∷◌, ◌++◌, length, drop, refl, sym, ap, subst, ◌∙◌, inl, inr, Option, Some, None, arith, append_assoc}
-use Rattle.std.specs.Prelude.{◌⊎◌, ◌||◌, ◌&&◌, not, IsTrue, Contains}
+use Rattle.std.specs.Prelude.{Contains, IsTrue}
 use Rattle.std.specs.List.{AllByRecursion, flat_map, list_all}
 use Rattle.std.proofs.lemmas.List.{append-nil, length-append, map-append}
-use Rattle.std.proofs.lemmas.List.Elements.{Contains-append_cases}
 use Rattle.lps_terms.specs.declared.atom.Atom.{Atom}
-use Rattle.lps_terms.specs.declared.effects.Effects.{Effects}
 use Rattle.lps_terms.specs.declared.kind.Kind.TheVariants as k
 use Rattle.lps_terms.specs.declared.text.Text.{Text}
 use Rattle.lps_model.specs.declared.cycle.Cycle.{Cycle}
@@ -15,70 +13,33 @@ use Rattle.lps_model.specs.declared.verdict.Verdict.TheVariants.{Admitted, Rejec
 use Rattle.lps_model.specs.Order.{happens}
 use Rattle.lps_model.specs.Run.{IsExternal}
 use Rattle.lps_model.specs.Trace.{admitted, happens_in, if_admitted, then_cycle}
-use Rattle.lps_model.proofs.Elements.{first_or_later, nothing_contained}
 use Rattle.lps_model.specs.Clauses.{clauses}
+use Rattle.lps_model.proofs.Elements.{first_or_later, nothing_contained}
 use Rattle.lps_derivation.specs.Ground.{is_ground}
 use Rattle.lps_derivation.specs.Levels.{AreLevels}
-use Rattle.lps_facts.specs.Facts.{TrailedSet, is_among, members, with_effects}
-use Rattle.lps_facts.proofs.Sequences.{members_with_effects}
 use Rattle.lps_meaning.specs.Cycles.{AreJudged, IsOutside, IsVerdict}
 use Rattle.lps_meaning.specs.Reports.{IsState}
 use Rattle.lps_model.specs.Rules.{kind_of, rules}
-use Rattle.lps_causal.specs.Effects.{AreEffects}
-use Rattle.lps_causal.specs.Names.{AreEvents, AreFluents, IsEvent}
-use Rattle.lps_causal.proofs.States.{next_state}
+use Rattle.lps_causal.specs.Names.{AreEvents, IsEvent}
+use Rattle.lps_causal.specs.Next.{IsUpdate}
 use Rattle.lps_precond.specs.Judged.{IsJudged}
-use Rattle.lps_cycle.specs.Admission.{AreAdmitted, InState, IsUpdate, IsVerdictIn, MayCome}
+use Rattle.lps_trial.specs.Trial.{InState}
+use Rattle.lps_cycle.specs.Admission.{AreAdmitted, IsVerdictIn, MayCome}
 use Rattle.lps_cycle.specs.Engine.{EngineState, Stands, depth}
-use Rattle.lps_cycle.proofs.Initial.{among_contained, contained_among}
 use Rattle.lps_cycle.proofs.Runs.{plain, run_more}
 
--- ---- which atoms are fluents, and which are events
-
-came_or_stayed : (new held gone : Bool) → (new || (held && not gone)) ≡ true → (new ≡ true) ⊎ (held ≡ true)
-came_or_stayed true held gone h = inl refl
-came_or_stayed false true gone h = inr refl
-came_or_stayed false false gone h = absurd cc
-
-fluents_after : (text : Text) (effects : Effects) (facts : TrailedSet) → AreFluents text (members facts) → AreFluents text effects.initiated → AreFluents text (members (with_effects effects facts))
-fluents_after text effects facts before new = record {
-  each = λ a at.
-      elim (came_or_stayed (is_among effects.initiated a) (is_among (members facts) a) (is_among effects.terminated a)
-      (sym (members_with_effects effects facts a) ∙ contained_among (members (with_effects effects facts)) a at)) [
-        | inl came ↦ new.each a (among_contained effects.initiated a came)
-        | inr stayed ↦ before.each a (among_contained (members facts) a stayed)
-      ];
-}
-
-pub events_none : (text : Text) → AreEvents text []
-events_none text = record { each = λ a at. absurd (nothing_contained a at) }
-
-pub events_more : (text : Text) (events : List Atom) (event : Atom) → AreEvents text events → IsEvent text event → AreEvents text (events ++ event ∷ [])
-events_more text events event are is = record {
-  each = λ a at.
-      elim (Contains-append_cases events (event ∷ []) a at) [
-        | inl before ↦ are.each a before
-        | inr here ↦ elim (first_or_later event [] a here) [ inl same ↦ subst (IsEvent text) same is | inr later ↦ absurd (nothing_contained a later) ]
-      ];
-}
+-- ---- which atoms are events
 
 pub may_be_event : (text : Text) (event : Atom) → MayCome text event → IsEvent text event
 may_be_event text event may = record { ground = may.1; kind = ap happens may.0.kind }
 
-pub events_kept : (text : Text) (events : List Atom) (event : Atom) (verdict : Verdict) → AreEvents text events → IsEvent text event → AreEvents text (events ++ if_admitted verdict event)
-events_kept text events event Admitted are is = events_more text events event are is
-events_kept text events event (Rejected k) are is = subst (AreEvents text) (sym (append-nil events)) are
-
--- ---- the update
-
-pub updated : (text : Text) (before : TrailedSet) (events : List Atom) (effects : Effects) (after : List Atom) → after ≡ members (with_effects effects before) →
-    AreFluents text (members before) → AreFluents text effects.initiated →
-    ((level : List ℕ → ℕ) → AreLevels (clauses text) level → AreEffects text level (members before) events effects) → IsUpdate text (members before) events after
-updated text before events effects after is fluents new are = record {
-  fluents = subst (AreFluents text) (sym is) (fluents_after text effects before fluents new);
-  state = λ level levels trace cycle same state.
-      subst (IsState text level (then_cycle trace cycle) (suc (length trace.cycles))) (sym is)
-      (next_state text level trace cycle before effects state (subst (λ (happened : List Atom). AreEffects text level (members before) happened effects) (sym same) (are level levels)));
+pub one_event : (text : Text) (event : Atom) (events : List Atom) → events ≡ event ∷ [] → IsEvent text event → AreEvents text events
+one_event text event events are is = record {
+  each = λ a at.
+      elim (first_or_later event [] a (subst (λ (es : List Atom). Contains es a) are at)) [
+        | inl same ↦ subst (IsEvent text) same is
+        | inr later ↦ absurd (nothing_contained a later)
+      ];
 }
 
 -- ---- verdicts
@@ -117,6 +78,10 @@ all_judged text facts all verdicts kept so_far = record {
   judged = λ level levels trace state. subst (AreJudged text level trace [] all) (append-nil verdicts) (so_far.judged level levels trace state [] tt);
   kept_are = sym (ap (admitted all) (sym (append-nil verdicts)) ∙ so_far.kept_are [] ∙ append-nil kept);
 }
+
+-- the events that are kept are the admitted ones
+pub kept_admitted : (text : Text) (facts all : List Atom) (verdicts : List Verdict) (kept : List Atom) → AreAdmitted text facts all verdicts kept → AreAdmitted text facts all verdicts (admitted all verdicts)
+kept_admitted text facts all verdicts kept are = record { judged = are.judged; kept_are = refl }
 
 -- ---- the next cycle of a run
 

@@ -1,68 +1,103 @@
-ghost use Rattle.std.specs.Prelude.{◌≡◌, ◌++◌, IfOk, List};
+ghost use Rattle.std.specs.Prelude.{◌≡◌, ◌++◌, [], IfOk, OnErr, List};
 ghost use Rattle.std.specs.List.{AllByRecursion};
-ghost use Rattle.lps_model.specs.Trace.{if_admitted};
+ghost use Rattle.lps_model.specs.Trace.{admitted, if_admitted};
 ghost use Rattle.lps_facts.specs.Facts.{members};
-ghost use Rattle.lps_causal.specs.Names.{AreEvents, AreFluents, IsEvent};
+ghost use Rattle.lps_causal.specs.Names.{IsEvent};
+ghost use Rattle.lps_causal.specs.Next.{IsUpdate};
+ghost use Rattle.lps_trial.specs.Trial.{IsLonger, IsTrial};
 ghost use Rattle.lps_cycle.specs.Admission.{AreAdmitted, IsVerdictIn, MayCome};
 
-use crate::theory::Theory;
-use lps_facts::Facts;
 use lps_model::Verdict;
-use lps_terms::{Atom, copy_atom};
+use lps_terms::Atom;
+use lps_trial::{Theory, Trial};
 use sqlite_items::Items;
 use std::alloc::{AllocError, Global};
-
-/// The verdicts on the events of a batch, and the events that were admitted.
-#[derive(Drop)]
-pub(crate) struct Admission {
-    pub verdicts: Items<Verdict>,
-    pub admitted: Vec<Atom>,
-}
+use std::slice;
 
 /// Judges an event with those admitted before it, and adds it to them where it is admitted.
 fn judge(
     alloc: Global,
     theory: &Theory,
-    facts: &mut Facts,
-    admitted: &mut Vec<Atom>,
+    trial: &mut Trial,
     event: &Atom,
 ) -> Result<Verdict, AllocError>
-    requires state { AreFluents theory.now (members facts.now) }
-    requires before { AreEvents theory.now admitted.now.items }
+    requires trial { IsTrial theory.now trial.now }
     requires event { IsEvent theory.now event.now }
-    ensures verdict { IfOk result (λ verdict. IsVerdictIn theory.now (members facts.old) admitted.old.items event.now verdict) }
-    ensures kept { IfOk result (λ verdict. admitted.new.items ≡ admitted.old.items ++ if_admitted verdict event.now) }
-    ensures same { facts.new ≡ facts.old }
+    ensures verdict { IfOk result (λ verdict. IsVerdictIn theory.now (members trial.old.state) trial.old.events event.now verdict) }
+    ensures kept { IfOk result (λ verdict. trial.new.events ≡ trial.old.events ++ if_admitted verdict event.now) }
+    ensures trial { IsTrial theory.now trial.new }
+    ensures longer { IsLonger trial.old trial.new }
 {
-    admitted.push(copy_atom(alloc, event)?)?;
-    match theory.violated(alloc, facts, admitted.as_slice())? {
-        Some(denial) => {
-            admitted.pop();
-            Ok(Verdict::Rejected(denial))
-        }
+    match trial.try_events(alloc, theory, slice::from_ref(event))? {
+        Some(denial) => Ok(Verdict::Rejected(denial)),
         None => Ok(Verdict::Admitted),
     }
 }
 
-/// Judges the events of a batch in order, each with those admitted before it.
-pub(crate) fn admit(
+/// Judges the events of a batch in order, each with those admitted before it, which are then the events of the trial.
+fn admit(
     alloc: Global,
     theory: &Theory,
-    facts: &mut Facts,
+    trial: &mut Trial,
     events: &[Atom],
-) -> Result<Admission, AllocError>
-    requires state { AreFluents theory.now (members facts.now) }
+) -> Result<Items<Verdict>, AllocError>
+    requires trial { IsTrial theory.now trial.now }
+    requires anew { trial.now.events ≡ [] }
     requires events { AllByRecursion (MayCome theory.now) events.now }
-    ensures admitted { IfOk result (λ admission. AreAdmitted theory.now (members facts.old) events.now admission.verdicts admission.admitted.items) }
-    ensures events { IfOk result (λ admission. AreEvents theory.now admission.admitted.items) }
-    ensures same { facts.new ≡ facts.old }
+    ensures admitted { IfOk result (λ verdicts. AreAdmitted theory.now (members trial.old.state) events.now verdicts trial.new.events) }
+    ensures trial { IsTrial theory.now trial.new }
+    ensures longer { IsLonger trial.old trial.new }
 {
     let mut verdicts = Vec::with_capacity(alloc, events.len())?;
-    let mut admitted = Vec::new(alloc);
     for event in events {
-        let verdict = judge(alloc, theory, facts, &mut admitted, event)?;
+        let verdict = judge(alloc, theory, trial, event)?;
         verdicts.push(verdict)?;
     }
-    let verdicts = Items::from_vec(verdicts);
-    Ok(Admission { verdicts, admitted })
+    Ok(Items::from_vec(verdicts))
+}
+
+/// Judges the events of a batch, and lets those that are admitted happen. Where memory runs out the trial stays as it was.
+pub(crate) fn happen(
+    alloc: Global,
+    theory: &Theory,
+    trial: &mut Trial,
+    events: &[Atom],
+) -> Result<Items<Verdict>, AllocError>
+    requires trial { IsTrial theory.now trial.now }
+    requires anew { trial.now.events ≡ [] }
+    requires events { AllByRecursion (MayCome theory.now) events.now }
+    ensures admitted { IfOk result (λ verdicts. AreAdmitted theory.now (members trial.old.state) events.now verdicts (admitted events.now verdicts)) }
+    ensures next { IfOk result (λ verdicts. IsUpdate theory.now (members trial.old.state) (admitted events.now verdicts) (members trial.new.state)) }
+    ensures trial { IsTrial theory.now trial.new }
+    ensures anew { trial.new.events ≡ [] }
+    ensures err { OnErr result (trial.new ≡ trial.old) }
+{
+    let mark = trial.mark();
+    match admit_and_update(alloc, theory, trial, events) {
+        Ok(verdicts) => Ok(verdicts),
+        Err(error) => {
+            trial.undo_to(&mark);
+            Err(error)
+        }
+    }
+}
+
+/// The same, but that a part of the events may be left where memory runs out.
+fn admit_and_update(
+    alloc: Global,
+    theory: &Theory,
+    trial: &mut Trial,
+    events: &[Atom],
+) -> Result<Items<Verdict>, AllocError>
+    requires trial { IsTrial theory.now trial.now }
+    requires anew { trial.now.events ≡ [] }
+    requires events { AllByRecursion (MayCome theory.now) events.now }
+    ensures admitted { IfOk result (λ verdicts. AreAdmitted theory.now (members trial.old.state) events.now verdicts (admitted events.now verdicts)) }
+    ensures next { IfOk result (λ verdicts. IsUpdate theory.now (members trial.old.state) (admitted events.now verdicts) (members trial.new.state)) }
+    ensures trial { IfOk result (λ verdicts. IsTrial theory.now trial.new × (trial.new.events ≡ [])) }
+    ensures longer { OnErr result (IsLonger trial.old trial.new) }
+{
+    let verdicts = admit(alloc, theory, trial, events)?;
+    trial.update(alloc, theory)?;
+    Ok(verdicts)
 }

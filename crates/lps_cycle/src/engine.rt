@@ -10,11 +10,11 @@ ghost use Rattle.lps_model.specs.Rules.{rules};
 ghost use Rattle.lps_cycle.specs.Admission.{MayCome};
 ghost use Rattle.lps_cycle.specs.Engine.{Stands};
 
-use crate::admission::admit;
-use crate::theory::Theory;
+use crate::admission::happen;
 use lps_facts::Facts;
 use lps_model::{Accepted, Cycle};
 use lps_terms::{Atom, Body, Statement};
+use lps_trial::{Theory, Trial};
 use sqlite_items::Items;
 use std::alloc::{AllocError, Global};
 use std::marker::Model;
@@ -23,7 +23,7 @@ use std::marker::Model;
 #[derive(Drop)]
 pub struct Engine {
     theory: Theory,
-    facts: Facts,
+    trial: Trial,
     cycles: u64,
 }
 
@@ -40,11 +40,11 @@ impl Model for Engine {
 
     ghost use Rattle.lps_facts.specs.Facts.{members};
     ghost use Rattle.lps_model.specs.Rules.{rules};
-    ghost use Rattle.lps_causal.specs.Names.{AreFluents};
+    ghost use Rattle.lps_trial.specs.Trial.{IsTrial};
 
-    ghost view = { λ it. record { text = it.theory; facts = members it.facts; cycles = it.cycles } };
+    ghost view = { λ it. record { text = it.theory; facts = members it.trial.state; cycles = it.cycles } };
 
-    ghost invariant = { λ it. (rules it.theory ≡ []) × AreFluents it.theory (members it.facts) × (it.cycles ≤ 1000000) };
+    ghost invariant = { λ it. (rules it.theory ≡ []) × IsTrial it.theory it.trial × (it.trial.events ≡ []) × (it.cycles ≤ 1000000) };
 }
 
 /// Puts the initial facts of a statement into the facts.
@@ -59,7 +59,7 @@ fn insert_initial(facts: &mut Facts, body: &Body) -> Result<(), AllocError>
 
 /// The facts of state 0.
 fn initial_facts(alloc: Global, statements: &[Statement]) -> Result<Facts, AllocError>
-    ensures { IfOk result (λ facts. members facts ≡ members (with_facts true (flat_map (λ s. initial_in s.body) statements.now) (record { base = []; changes = [] }))) }
+    ensures { IfOk result (λ facts. facts ≡ record { base = members (with_facts true (flat_map (λ s. initial_in s.body) statements.now) (record { base = []; changes = [] })); changes = [] }) }
 {
     let mut facts = Facts::new(alloc);
     for statement in statements {
@@ -76,11 +76,14 @@ impl Engine {
         ensures text { IfOk result (λ engine. engine.text ≡ text) }
         ensures stands { IfOk result (λ engine. Stands engine [] (first_trace engine.facts)) }
     {
-        let facts = initial_facts(alloc, text.text().statements.as_slice())?;
+        let statements = text.text().statements.as_slice();
+        let facts = initial_facts(alloc, statements)?;
+        let same = initial_facts(alloc, statements)?;
+        let trial = Trial::new(alloc, facts, same);
         let theory = Theory::new(alloc, text)?;
         Ok(Engine {
             theory,
-            facts,
+            trial,
             cycles: 0,
         })
     }
@@ -96,7 +99,7 @@ impl Engine {
     pub fn facts(&self) -> &Facts
         ensures { members result.now ≡ self.now.facts }
     {
-        &self.facts
+        self.trial.state()
     }
 
     /// How many cycles the run has.
@@ -120,13 +123,11 @@ impl Engine {
         ensures err { OnErr result (self.new ≡ self.old) }
         ensures stands { IfOk result (λ cycle. (batches : List (List Atom)) (trace : Trace) → Stands self.old batches trace → Stands self.new (batches ++ events ∷ []) (then_cycle trace cycle)) }
     {
-        let admission = admit(alloc, &self.theory, &mut self.facts, events.as_slice())?;
-        self.theory
-            .update(alloc, &mut self.facts, admission.admitted.as_slice())?;
+        let verdicts = happen(alloc, &self.theory, &mut self.trial, events.as_slice())?;
         self.cycles += 1;
         Ok(Cycle {
             events,
-            verdicts: admission.verdicts,
+            verdicts,
             picks: Items::new(alloc),
         })
     }

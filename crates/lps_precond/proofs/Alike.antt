@@ -1,14 +1,13 @@
 -- What facts before and after say of a trace: the state before together with the events, and the state after their effects.
-use Rattle.std.proofs.Common.{ℕ, zero, suc, Bool, true, false, not, ◌≡◌, List, [], ◌∷◌, map, length, refl, sym, ap, subst, ◌∙◌, inl, inr}
-use Rattle.std.specs.Prelude.{◌⊎◌, ◌↔◌, ◌&&◌, ◌||◌, Contains, IsTrue, Option, Some, None, if◌then◌else◌}
+use Rattle.std.proofs.Common.{ℕ, zero, suc, Bool, true, false, ◌≡◌, List, [], ◌∷◌, map, length, refl, sym, ap, subst, ◌∙◌, inl, inr}
+use Rattle.std.specs.Prelude.{◌⊎◌, ◌↔◌, Contains, IsTrue, Option, Some, None, if◌then◌else◌}
 use Rattle.lps_terms.specs.declared.atom.Atom.{Atom}
-use Rattle.lps_terms.specs.declared.effects.Effects.{Effects}
 use Rattle.lps_terms.specs.declared.kind.Kind.{Kind}
 use Rattle.lps_terms.specs.declared.kind.Kind.TheVariants as k
 use Rattle.lps_terms.specs.declared.text.Text.{Text}
 use Rattle.lps_values.specs.Truth.{is_true}
-use Rattle.lps_facts.specs.Facts.{TrailedSet, is_among, members, with_effects, with_facts}
-use Rattle.lps_facts.proofs.Sequences.{members_with_all, members_with_effects}
+use Rattle.lps_facts.specs.Facts.{TrailedSet, is_among, members, with_facts}
+use Rattle.lps_facts.proofs.Sequences.{members_with_all}
 use Rattle.lps_model.specs.declared.cycle.Cycle.{Cycle}
 use Rattle.lps_model.specs.declared.trace.Trace.{Trace}
 use Rattle.lps_model.specs.declared.verdict.Verdict.TheVariants.{Admitted}
@@ -16,6 +15,7 @@ use Rattle.lps_model.specs.Acceptance.{IsAccepted}
 use Rattle.lps_model.specs.Order.{happens}
 use Rattle.lps_model.specs.Trace.{admitted, happens_in}
 use Rattle.lps_model.specs.Clauses.{clauses}
+use Rattle.lps_derivation.specs.Levels.{AreLevels}
 use Rattle.lps_derivation.specs.Laws.{Passes, IsDerivedFrom}
 use Rattle.lps_derivation.proofs.Reach.{same_reached}
 use Rattle.lps_meaning.specs.Denials.{then_events}
@@ -26,10 +26,10 @@ use Rattle.lps_meaning.proofs.Persistence.{turn, update_law}
 use Rattle.lps_solve.specs.Met.{AreGround}
 use Rattle.lps_solve.proofs.Facts.{among_contains, contains_among}
 use Rattle.lps_unify.proofs.Keeping.{append_none}
-use Rattle.lps_causal.specs.Effects.{AreEffects}
 use Rattle.lps_causal.specs.Names.{AreEvents, AreFluents}
+use Rattle.lps_causal.specs.Next.{IsUpdate}
 use Rattle.lps_causal.proofs.Happening.{caused_is_fluent, is_condition, is_timeless, not_both, timeless_everywhere, true_before, true_events}
-use Rattle.lps_causal.proofs.States.{next_state, state_stays}
+use Rattle.lps_causal.proofs.States.{state_stays}
 use Rattle.lps_precond.proofs.Bridge.{AreAlike}
 
 then_both : {P Q R : Type 0} → P ↔ Q → Q ↔ R → P ↔ R
@@ -59,25 +59,6 @@ with_events facts events a = (
     tests : Contains (members facts) a ⊎ Contains events a → (is_among (members facts) a ≡ true) ⊎ (is_among events a ≡ true)
     tests (inl old) = inl (among_contains a (members facts) old)
     tests (inr new) = inr (among_contains a events new)
-
-new_or_kept : (new held gone : Bool) → (new || (held && not gone)) ≡ true → (new ≡ true) ⊎ (held ≡ true)
-new_or_kept true held gone h = inl refl
-new_or_kept false true gone h = inr refl
-new_or_kept false false gone h = absurd (cc)
-
--- effects of fluents leave fluents
-pub fluents_after : (text : Text) (facts : TrailedSet) (effects : Effects) → AreFluents text (members facts) → AreFluents text effects.initiated → AreFluents text (members (with_effects effects facts))
-fluents_after text facts effects old new = record {
-  each = λ a h.
-      elim (new_or_kept (is_among effects.initiated a) (is_among (members facts) a) (is_among effects.terminated a)
-      (sym (members_with_effects effects facts a) ∙ among_contains a (members (with_effects effects facts)) h)) [
-        | inl begun ↦ new.each a (contains_among a effects.initiated begun)
-        | inr held ↦ old.each a (contains_among a (members facts) held)
-      ];
-}
-
-pub after_ground : (text : Text) (facts : TrailedSet) (effects : Effects) → AreFluents text (members facts) → AreFluents text effects.initiated → (a : Atom) → Contains (members (with_effects effects facts)) a → AreGround a.args
-after_ground text facts effects old new a h = ((fluents_after text facts effects old new).each a h).ground
 
 -- ---- the set with the events
 
@@ -132,9 +113,9 @@ same_truth : (text : Text) (level : List ℕ → ℕ) (One Two : Atom → Type 0
 same_truth text level One Two same a =
     same_reached (Passes is_true) (clauses text) (λ name. true) (record { calls = λ k l at among named. refl }) One Two (λ b named. same b) level a refl
 
-module _ (text : Text) (accepted : IsAccepted text) (level : List ℕ → ℕ) (trace : Trace) (events : List Atom) (facts : TrailedSet) (effects : Effects)
-    (fluents : AreFluents text (members facts)) (happening : AreEvents text events) (new_fluents : AreFluents text effects.initiated)
-    (state : IsState text level trace (length trace.cycles) (members facts)) (are : AreEffects text level (members facts) events effects) where
+module _ (text : Text) (accepted : IsAccepted text) (level : List ℕ → ℕ) (levels : AreLevels (clauses text) level) (trace : Trace) (events : List Atom) (facts : TrailedSet) (after : List Atom)
+    (fluents : AreFluents text (members facts)) (happening : AreEvents text events) (update : IsUpdate text (members facts) events after)
+    (state : IsState text level trace (length trace.cycles) (members facts)) where
   abbrev now : ℕ
   now = length trace.cycles
 
@@ -144,16 +125,11 @@ module _ (text : Text) (accepted : IsAccepted text) (level : List ℕ → ℕ) (
   abbrev both : List Atom
   both = members (with_facts true events facts)
 
-  abbrev after : List Atom
-  after = members (with_effects effects facts)
-
   state_now : IsState text level longer now (members facts)
   state_now = state_stays text level trace (cycle_of events) (members facts) state
 
   state_then : IsState text level longer (suc now) after
-  state_then =
-      next_state text level trace (cycle_of events) facts effects state
-      (subst (λ (happened : List Atom). AreEffects text level (members facts) happened effects) (sym (happens_then events)) are)
+  state_then = update.state level levels trace (cycle_of events) (happens_then events) state
 
   -- what is no fluent stays
   stays : (a : Atom) → (kind_of text a.name ≡ Some k.Fluent → ⊥) → Holds text level longer 0 a → (i : ℕ) → Holds text level longer i a
@@ -180,6 +156,6 @@ module _ (text : Text) (accepted : IsAccepted text) (level : List ℕ → ℕ) (
         then_both (timeless_everywhere text accepted level (Holds text level longer 0) (Contains (members facts)) starts_as_fluent (λ b h. (fluents.each b h).kind) a named)
         (turn (before_is a (timeless_is_condition (kind_of text a.name) named)));
     bare_after = λ a named.
-        timeless_everywhere text accepted level (Holds text level longer 0) (Contains after) starts_as_fluent (λ b h. ((fluents_after text facts effects fluents new_fluents).each b h).kind) a named;
+        timeless_everywhere text accepted level (Holds text level longer 0) (Contains after) starts_as_fluent (λ b h. (update.fluents.each b h).kind) a named;
     happening = λ a is. turn (true_events text accepted (members facts) events both fluents happening (with_events facts events) level a is);
   }

@@ -1,10 +1,7 @@
--- What is answered where events are tried.
-use Rattle.std.specs.Prelude.{◌≡◌, ◌<◌, ℕ, List, Option, Some, None, Result, Ok, Err}
-use Rattle.std.specs.declared.alloc.AllocError.{AllocError}
+-- What is answered of events.
+use Rattle.std.specs.Prelude.{◌≡◌, ◌<◌, ℕ, List, Option, Some, None}
 use Rattle.lps_terms.specs.declared.atom.Atom.{Atom}
-use Rattle.lps_terms.specs.declared.effects.Effects.{Effects}
 use Rattle.lps_terms.specs.declared.text.Text.{Text}
-use Rattle.lps_facts.specs.Facts.{TrailedSet, with_effects}
 use Rattle.lps_model.specs.declared.trace.Trace.{Trace}
 use Rattle.lps_model.specs.Clauses.{Clause}
 use Rattle.lps_meaning.specs.Denials.{IsLeastViolated, ViolatesNone}
@@ -17,12 +14,6 @@ use Rattle.lps_precond.specs.Rows.{IsViolated}
 abbrev pub IsJudged : Text → (List ℕ → ℕ) → Trace → List Atom → Option ℕ → Type 0
 IsJudged text level trace events None = ViolatesNone text level trace events
 IsJudged text level trace events (Some k) = IsLeastViolated text level trace events k
-
--- the facts that are left: with the effects where no denial is violated, and else as before
-abbrev pub left_by : Result (Option ℕ) AllocError → Effects → TrailedSet → TrailedSet
-left_by (Ok None) effects facts = with_effects effects facts
-left_by (Ok (Some k)) effects facts = facts
-left_by (Err error) effects facts = facts
 
 -- ---- the same over facts before and after
 

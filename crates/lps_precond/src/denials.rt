@@ -1,4 +1,4 @@
-ghost use Rattle.std.specs.Prelude.{◌≡◌, ℕ, true, false, List, length, IfOk, IsTrue, OnOk, Contains};
+ghost use Rattle.std.specs.Prelude.{◌≡◌, ℕ, true, false, List, length, IfOk, IsTrue, Contains};
 ghost use Rattle.std.specs.List.{list_any};
 ghost use Rattle.lps_terms.specs.declared.atom.Atom.{Atom as Fact};
 ghost use Rattle.lps_terms.specs.declared.text.Text.{Text};
@@ -6,21 +6,21 @@ ghost use Rattle.lps_model.specs.declared.trace.Trace.{Trace};
 ghost use Rattle.lps_model.specs.Order.{happens};
 ghost use Rattle.lps_model.specs.Clauses.{clauses};
 ghost use Rattle.lps_derivation.specs.Levels.{AreLevels};
-ghost use Rattle.lps_facts.specs.Facts.{IsLater, members, with_effects, with_facts};
+ghost use Rattle.lps_facts.specs.Facts.{IsLater, members, with_facts};
 ghost use Rattle.lps_meaning.specs.Denials.{ViolatesNone};
 ghost use Rattle.lps_meaning.specs.Reports.{IsState};
 ghost use Rattle.lps_model.specs.Rules.{kind_of};
 ghost use Rattle.lps_solve.specs.Met.{AreGround};
-ghost use Rattle.lps_causal.specs.Effects.{AreEffects};
 ghost use Rattle.lps_causal.specs.Names.{AreEvents, AreFluents};
+ghost use Rattle.lps_causal.specs.Next.{IsUpdate};
 ghost use Rattle.lps_precond.specs.Cut.{cuts};
-ghost use Rattle.lps_precond.specs.Judged.{IsJudged, IsLeast, left_by};
+ghost use Rattle.lps_precond.specs.Judged.{IsJudged, IsLeast};
 ghost use Rattle.lps_precond.specs.Rows.{AreAllFit, AreRowsOfAll, all_happen, rows_in};
 
 use crate::denial::Denial;
 use lps_facts::Facts;
 use lps_solve::Program;
-use lps_terms::{Atom, Body, Effects, Text, Values};
+use lps_terms::{Atom, Body, Text, Values};
 use std::alloc::{AllocError, Global};
 use std::marker::Model;
 
@@ -73,62 +73,28 @@ impl Denials {
         any_may_be_met(self.denials.as_slice(), events)
     }
 
-    /// The least number of a denial that the events violate, with the facts as before; or none where they violate none, with
-    /// the effects applied. The effects are those of the events in the state that the facts are.
+    /// The least number of a denial that the events violate, or none where they violate none. The facts are the state that the
+    /// events come in, and `next` is the state that they make of it.
     ///
-    /// An error comes where memory runs out, and leaves the facts as before.
-    pub fn try_events(
+    /// An error comes where memory runs out. The facts are as before on every way out.
+    pub fn least_violated(
         &self,
         alloc: Global,
         program: &Program,
         facts: &mut Facts,
+        next: &Facts,
         events: &[Atom],
-        effects: Effects,
     ) -> Result<Option<u32>, AllocError>
         requires denials { self.now ≡ cuts program.now }
         requires state { AreFluents program.now (members facts.now) }
         requires events { AreEvents program.now events.now }
-        requires effects { (level : List ℕ → ℕ) → AreLevels (clauses program.now) level → AreEffects program.now level (members facts.now) events.now effects }
-        requires fluents { AreFluents program.now effects.initiated }
+        requires next { IsUpdate program.now (members facts.now) events.now (members next.now) }
         ensures judged { IfOk result (λ found. (level : List ℕ → ℕ) → AreLevels (clauses program.now) level → (trace : Trace) → IsState program.now level trace (length trace.cycles) (members facts.old) → IsJudged program.now level trace events.now found) }
-        ensures left { facts.new ≡ left_by result effects facts.old }
-        ensures later { IsLater facts.old facts.new }
+        ensures same { facts.new ≡ facts.old }
     {
         program.lawful();
-        let mark = facts.mark();
-        match self.tried(alloc, program, facts, events, effects) {
-            Ok(None) => Ok(None),
-            Ok(Some(number)) => {
-                facts.undo_to(&mark);
-                Ok(Some(number))
-            }
-            Err(error) => {
-                facts.undo_to(&mark);
-                Err(error)
-            }
-        }
-    }
-
-    /// The least number of a denial that is violated. On an answer the effects are applied.
-    fn tried(
-        &self,
-        alloc: Global,
-        program: &Program,
-        facts: &mut Facts,
-        events: &[Atom],
-        effects: Effects,
-    ) -> Result<Option<u32>, AllocError>
-        requires denials { self.now ≡ cuts program.now }
-        requires state { AreFluents program.now (members facts.now) }
-        requires events { AreEvents program.now events.now }
-        requires fluents { AreFluents program.now effects.initiated }
-        ensures found { IfOk result (λ found. (level : List ℕ → ℕ) → AreLevels (clauses program.now) level → IsLeast (clauses program.now) (members (with_facts true events.now facts.old)) (members (with_effects effects facts.old)) level self.now found) }
-        ensures applied { OnOk result (facts.new ≡ with_effects effects facts.old) }
-        ensures later { IsLater facts.old facts.new }
-    {
         let rows = self.rows_before(alloc, program, facts, events)?;
-        facts.apply(effects)?;
-        self.first_met(alloc, program, facts, rows.as_slice())
+        self.first_met(alloc, program, next, rows.as_slice())
     }
 
     /// For each denial its rows over the facts together with the events.

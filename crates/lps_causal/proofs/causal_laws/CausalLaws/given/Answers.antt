@@ -1,48 +1,35 @@
-use Rattle.std.proofs.Common.{ℕ, List, [], take, get_or, sym, subst, arith}
+use Rattle.std.proofs.Common.{ℕ, Bool, List, [], get_or, sym, subst, arith, take}
 use Rattle.std.specs.Prelude.{Contains}
 use Rattle.std.proofs.lemmas.List.Elements.{Contains-get_or}
 use Rattle.lps_terms.specs.declared.atom.Atom.{Atom}
-use Rattle.lps_model.specs.Program.{Law, laws}
 use Rattle.lps_model.specs.Clauses.{clauses}
+use Rattle.lps_model.specs.Program.{laws}
 use Rattle.lps_facts.specs.Facts.{members}
-use Rattle.lps_solve.proofs.Gaining.{default_free}
-use Rattle.lps_causal.specs.Given.{ByOne, Gains, GivesAs}
-use Rattle.lps_causal.specs.Table.{law_at, no_law}
-use Rattle.lps_causal.proofs.Gaining.{ByOne-all, ByOne-more, ByOne-none}
+use Rattle.lps_causal.specs.Given.{ByOne, Gains, GivesAs, fluents_of}
+use Rattle.lps_causal.proofs.Gaining.{ByOne-all, ByOne-more, ByOne-none, all_gained}
 use Rattle.lps_causal.proofs.causal_laws.CausalLaws.given.Goals as goal
 
-pub law-requires : goal.law-requires
-law-requires c = c.requires.places (get_or c.args.places.now c.loop-place.place-index 0) (Contains-get_or c.args.places.now c.loop-place.place-index 0 c.loop-place-test.true)
+pub loop-event-init : goal.loop-event-init
+loop-event-init c = λ level levels initiates.
+    let P = λ (event : Atom). ByOne (laws c.args.program.now) (GivesAs (clauses c.args.program.now) (members c.args.facts.now) level event initiates) in
+    subst (λ (found : List Atom). Gains [] found (ByOne (take 0 c.args.events.now) P)) (sym (c.new-given.ensures initiates)) (ByOne-none c.args.events.now P [])
 
-pub loop-place-init : goal.loop-place-init
-loop-place-init c = λ level levels.
-    subst (λ (found : List Atom). Gains [] found (ByOne (take 0 c.args.places.now) (λ i. GivesAs c.args.initiates (clauses c.args.program.now) (members c.args.facts.now) level (law_at c.args.self.now i))))
-    (sym c.new-found.ensures.empty)
-    (ByOne-none c.args.places.now (λ i. GivesAs c.args.initiates (clauses c.args.program.now) (members c.args.facts.now) level (law_at c.args.self.now i)) [])
+pub add_by_event-requires : goal.add_by_event-requires
+add_by_event-requires c = record {
+  laws = c.requires.laws;
+  state = λ a h. (c.requires.state.each a h).ground;
+  event = (c.requires.events.each c.event-item.result (subst (Contains c.args.events.now) (sym c.event-item.is) (Contains-get_or c.args.events.now c.loop-event.event-index c.event-item.result c.loop-event-test.true))).ground;
+}
 
-pub note_law-requires : goal.note_law-requires
-note_law-requires c =
-    let place : ℕ = get_or c.args.places.now c.loop-place.place-index 0 in
-    let within = c.requires.places place (Contains-get_or c.args.places.now c.loop-place.place-index 0 c.loop-place-test.true) in
-    record {
-      asked = c.law.ensures.asked;
-      law = subst (Contains (laws c.args.program.now)) (sym c.law.ensures.law)
-          (subst (λ (all : List Law). Contains all (law_at c.args.self.now place)) c.requires.laws (Contains-get_or c.args.self.now place no_law within));
-      ground = c.requires.ground;
-    }
-
-pub loop-place-preserved : goal.loop-place-preserved
-loop-place-preserved c = λ level levels.
-    let place : ℕ = get_or c.args.places.now c.loop-place.place-index 0 in
-    ByOne-more c.loop-place.place-index c.args.places.now place (λ i. GivesAs c.args.initiates (clauses c.args.program.now) (members c.args.facts.now) level (law_at c.args.self.now i)) []
-    c.loop-place.found.keys c.note_law.new.found.keys c.loop-place-test.true (default_free c.args.places.now c.loop-place.place-index 0 place c.loop-place-test.true) (c.loop-place.invariant level levels)
-    (subst (λ (l : Law). Gains c.loop-place.found.keys c.note_law.new.found.keys (GivesAs c.args.initiates (clauses c.args.program.now) (members c.args.facts.now) level l)) c.law.ensures.law
-    (c.in_ok-note_law.ensures level levels))
+pub loop-event-preserved : goal.loop-event-preserved
+loop-event-preserved c = λ level levels initiates.
+    ByOne-more c.loop-event.event-index c.args.events.now c.event-item.result
+    (λ event. ByOne (laws c.args.program.now) (GivesAs (clauses c.args.program.now) (members c.args.facts.now) level event initiates)) []
+    (fluents_of initiates c.loop-event.given) (fluents_of initiates c.add_by_event.new.given) c.loop-event-test.true c.event-item.is (c.loop-event.invariant level levels initiates)
+    (c.in_ok-add_by_event.ensures level levels initiates)
 
 pub returns : goal.returns
-returns c = record {
-  given = λ level levels.
-      ByOne-all c.loop-place.place-index c.args.places.now (λ i. GivesAs c.args.initiates (clauses c.args.program.now) (members c.args.facts.now) level (law_at c.args.self.now i)) []
-      c.loop-place.found.keys (omega arith) (c.loop-place.invariant level levels);
-  ordered = c.len-count.ensures.ordered;
-}
+returns c = λ level levels initiates.
+    let P = λ (event : Atom). ByOne (laws c.args.program.now) (GivesAs (clauses c.args.program.now) (members c.args.facts.now) level event initiates) in
+    all_gained (fluents_of initiates c.loop-event.given) (ByOne c.args.events.now P)
+    (ByOne-all c.loop-event.event-index c.args.events.now P [] (fluents_of initiates c.loop-event.given) (omega arith) (c.loop-event.invariant level levels initiates))

@@ -1,0 +1,295 @@
+ghost use Rattle.std.specs.Prelude.{◌≡◌, ◌++◌, [], List, IfOk, OnErr, OnOk, MatchOption, length, take, not, false};
+ghost use Rattle.std.specs.List.{filter};
+ghost use Rattle.lps_terms.specs.declared.text.Text.{Text};
+ghost use Rattle.lps_facts.specs.Facts.{IsLater, is_among, members, with_effects, with_facts};
+ghost use Rattle.lps_causal.specs.Names.{AreEvents, AreFluents};
+ghost use Rattle.lps_causal.specs.Next.{IsUpdate};
+ghost use Rattle.lps_precond.specs.Judged.{IsJudged};
+ghost use Rattle.lps_trial.specs.Trial.{InState, IsLonger, IsMoment, IsTrial, back_at, moment_of, trial_in};
+
+use crate::theory::Theory;
+use lps_facts::{Facts, Mark};
+use lps_terms::{Atom, Effects, copy_atom};
+use sqlite_items::Items;
+use std::alloc::{AllocError, Global};
+use std::marker::Model;
+
+/// The events of a cycle so far, with the states before and after them. Contracts see these, and what the events initiate and
+/// terminate.
+#[derive(Drop)]
+pub struct Trial {
+    state: Facts,
+    next: Facts,
+    /// What the events initiate, which no termination ends.
+    begun: Facts,
+    /// How many changes of `begun` there were before the first event: none.
+    nothing: Mark,
+    /// What the events terminate, but for what was initiated until then.
+    ended: Vec<Atom>,
+    events: Vec<Atom>,
+}
+
+impl Model for Trial {
+    ghost use Rattle.lps_terms.specs.contracts.term.Term as term;
+    ghost use Rattle.std.specs.Coded.{codes};
+    ghost use Rattle.std.specs.Prelude.{◌≡◌};
+    ghost use Rattle.lps_trial.specs.Trial.{TrialState};
+
+    ghost Value = { TrialState };
+
+    ghost coded = { Prim.hlevel (codes, term.the_row.coded) };
+
+    ghost view = { λ it. record { state = it.state; next = it.next; begun = it.begun; ended = it.ended.items; events = it.events.items } };
+
+    ghost invariant = { λ it. it.nothing ≡ 0 };
+}
+
+/// A moment in the life of a trial, to which `Trial::undo_to` leads back.
+#[derive(Drop)]
+pub struct TrialMark {
+    next: Mark,
+    begun: Mark,
+    ended: usize,
+    events: usize,
+}
+
+impl Model for TrialMark {
+    ghost use Rattle.lps_trial.specs.Trial.{Moment};
+
+    ghost Value = { Moment };
+
+    ghost view = { λ it. record { next = it.next; begun = it.begun; ended = it.ended; events = it.events } };
+}
+
+impl Trial {
+    /// No events, in a state that is given twice: it becomes the state before and the one after.
+    pub fn new(alloc: Global, state: Facts, next: Facts) -> Trial
+        requires { next ≡ state }
+        ensures anew { result ≡ trial_in state }
+        ensures trial { (text : Text) → AreFluents text (members state) → IsTrial text result }
+    {
+        state.lawful();
+        let begun = Facts::new(alloc);
+        let nothing = begun.mark();
+        Trial {
+            state,
+            next,
+            begun,
+            nothing,
+            ended: Vec::new(alloc),
+            events: Vec::new(alloc),
+        }
+    }
+
+    /// The facts of the state before the events.
+    pub fn state(&self) -> &Facts
+        ensures { result.now ≡ self.now.state }
+    {
+        &self.state
+    }
+
+    /// The events so far, in the order in which they were tried.
+    pub fn events(&self) -> &[Atom]
+        ensures { result.now ≡ self.now.events }
+    {
+        self.events.as_slice()
+    }
+
+    /// This moment, to which `undo_to` leads back.
+    pub fn mark(&self) -> TrialMark
+        ensures { result ≡ moment_of self.now }
+    {
+        TrialMark {
+            next: self.next.mark(),
+            begun: self.begun.mark(),
+            ended: self.ended.len(),
+            events: self.events.len(),
+        }
+    }
+
+    /// Takes the trial back to the mark, which is one of this trial that nothing was undone past. This takes no memory.
+    pub fn undo_to(&mut self, mark: &TrialMark)
+        requires { IsMoment mark.now self.now }
+        ensures { self.new ≡ back_at mark.now self.old }
+    {
+        self.next.undo_to(&mark.next);
+        self.begun.undo_to(&mark.begun);
+        self.ended.truncate(mark.ended);
+        self.events.truncate(mark.events);
+    }
+
+    /// Makes the trial longer by some events, where they violate no denial together with those before them; else it stays as it
+    /// is, and the least number of a denial that is violated is answered. The events are one of a batch, or the actions of a
+    /// group.
+    ///
+    /// An error comes where memory runs out, and leaves the trial as it was.
+    pub fn try_events(
+        &mut self,
+        alloc: Global,
+        theory: &Theory,
+        events: &[Atom],
+    ) -> Result<Option<u32>, AllocError>
+        requires trial { IsTrial theory.now self.now }
+        requires events { AreEvents theory.now events.now }
+        ensures trial { IsTrial theory.now self.new }
+        ensures judged { IfOk result (λ found. InState theory.now (members self.old.state) (λ level trace. IsJudged theory.now level trace (self.old.events ++ events.now) found)) }
+        ensures events { IfOk result (λ found. MatchOption found (self.new.events ≡ self.old.events ++ events.now) (λ denial. self.new ≡ self.old)) }
+        ensures err { OnErr result (self.new ≡ self.old) }
+        ensures longer { IsLonger self.old self.new }
+    {
+        let mark = self.mark();
+        match self.tried(alloc, theory, events) {
+            Ok(None) => Ok(None),
+            Ok(Some(number)) => {
+                self.undo_to(&mark);
+                Ok(Some(number))
+            }
+            Err(error) => {
+                self.undo_to(&mark);
+                Err(error)
+            }
+        }
+    }
+
+    /// The least number of a denial that is violated. On an answer the trial is longer by the events.
+    fn tried(
+        &mut self,
+        alloc: Global,
+        theory: &Theory,
+        events: &[Atom],
+    ) -> Result<Option<u32>, AllocError>
+        requires trial { IsTrial theory.now self.now }
+        requires events { AreEvents theory.now events.now }
+        ensures trial { OnOk result (IsTrial theory.now self.new) }
+        ensures judged { IfOk result (λ found. InState theory.now (members self.old.state) (λ level trace. IsJudged theory.now level trace (self.old.events ++ events.now) found)) }
+        ensures events { OnOk result (self.new.events ≡ self.old.events ++ events.now) }
+        ensures longer { IsLonger self.old self.new }
+    {
+        self.extend(alloc, theory, events)?;
+        self.least_violated(alloc, theory)
+    }
+
+    /// The least number of a denial that the events so far violate. The trial is as before on every way out.
+    fn least_violated(&mut self, alloc: Global, theory: &Theory) -> Result<Option<u32>, AllocError>
+        requires trial { IsTrial theory.now self.now }
+        ensures judged { IfOk result (λ found. InState theory.now (members self.old.state) (λ level trace. IsJudged theory.now level trace self.old.events found)) }
+        ensures same { self.new ≡ self.old }
+    {
+        theory.least_violated(alloc, &mut self.state, &self.next, self.events.as_slice())
+    }
+
+    /// Makes the trial longer by the events and their effects, or by a part of them where memory runs out.
+    fn extend(&mut self, alloc: Global, theory: &Theory, events: &[Atom]) -> Result<(), AllocError>
+        requires trial { IsTrial theory.now self.now }
+        requires events { AreEvents theory.now events.now }
+        ensures trial { OnOk result (IsTrial theory.now self.new) }
+        ensures events { OnOk result (self.new.events ≡ self.old.events ++ events.now) }
+        ensures longer { IsLonger self.old self.new }
+    {
+        let effects = theory.effects(alloc, &mut self.state, events)?;
+        let effects = but_for(alloc, effects, &self.begun)?;
+        self.begun.insert_all(effects.initiated.as_slice())?;
+        push_all(alloc, &mut self.ended, effects.terminated.as_slice())?;
+        self.next.apply(effects)?;
+        push_all(alloc, &mut self.events, events)
+    }
+
+    /// Makes the state after the events the state before, and begins anew without events: nothing that was done until now can be
+    /// taken back. Where memory runs out, the trial stays as it is.
+    pub fn update(&mut self, alloc: Global, theory: &Theory) -> Result<(), AllocError>
+        requires trial { IsTrial theory.now self.now }
+        ensures next { OnOk result (IsUpdate theory.now (members self.old.state) self.old.events (members self.new.state)) }
+        ensures trial { OnOk result (IsTrial theory.now self.new) }
+        ensures events { OnOk result (self.new.events ≡ []) }
+        ensures err { OnErr result (self.new ≡ self.old) }
+    {
+        theory.lawful();
+        self.state.lawful();
+        make_at_once(alloc, &mut self.state, self.ended.as_slice(), &self.begun)?;
+        self.state.settle();
+        self.next.settle();
+        self.begun.undo_to(&self.nothing);
+        self.ended.truncate(0);
+        self.events.truncate(0);
+        Ok(())
+    }
+}
+
+/// Takes what ended out of the facts, and then puts in what has begun. Where memory runs out the facts stay as they are.
+fn make_at_once(
+    alloc: Global,
+    facts: &mut Facts,
+    ended: &[Atom],
+    begun: &Facts,
+) -> Result<(), AllocError>
+    ensures made { OnOk result (facts.new ≡ with_effects (record { initiated = members begun.now; terminated = ended.now }) facts.old) }
+    ensures err { OnErr result (facts.new ≡ facts.old) }
+{
+    let mark = facts.mark();
+    let done = make(alloc, facts, ended, begun);
+    if done.is_err() {
+        facts.undo_to(&mark);
+    }
+    done
+}
+
+/// The same, but that a part of it is done where memory runs out.
+fn make(alloc: Global, facts: &mut Facts, ended: &[Atom], begun: &Facts) -> Result<(), AllocError>
+    ensures made { OnOk result (facts.new ≡ with_effects (record { initiated = members begun.now; terminated = ended.now }) facts.old) }
+    ensures later { IsLater facts.old facts.new }
+{
+    remove_all(facts, ended)?;
+    let begun = begun.sorted(alloc)?;
+    facts.insert_all(begun.as_slice())
+}
+
+/// Takes each of these out. Where memory runs out some of them may be out.
+fn remove_all(facts: &mut Facts, gone: &[Atom]) -> Result<(), AllocError>
+    ensures all { OnOk result (facts.new ≡ with_facts false gone.now facts.old) }
+    ensures later { IsLater facts.old facts.new }
+{
+    for fact in gone {
+        facts.remove(fact)?;
+    }
+    Ok(())
+}
+
+/// The effects without the terminations of what was begun.
+fn but_for(alloc: Global, effects: Effects, begun: &Facts) -> Result<Effects, AllocError>
+    ensures initiated { IfOk result (λ kept. kept.initiated ≡ effects.initiated) }
+    ensures terminated { IfOk result (λ kept. kept.terminated ≡ filter (λ a. not (is_among (members begun.now) a)) effects.terminated) }
+{
+    let Effects {
+        initiated,
+        terminated,
+    } = effects;
+    let terminated = Items::from_vec(others(alloc, terminated.as_slice(), begun)?);
+    Ok(Effects {
+        initiated,
+        terminated,
+    })
+}
+
+/// Copies of the fluents that are none of these.
+fn others(alloc: Global, fluents: &[Atom], these: &Facts) -> Result<Vec<Atom>, AllocError>
+    ensures { IfOk result (λ kept. kept.items ≡ filter (λ a. not (is_among (members these.now) a)) fluents.now) }
+{
+    let mut kept = Vec::new(alloc);
+    for fluent in fluents {
+        if !these.contains(fluent) {
+            kept.push(copy_atom(alloc, fluent)?)?;
+        }
+    }
+    Ok(kept)
+}
+
+/// Adds copies of these.
+fn push_all(alloc: Global, all: &mut Vec<Atom>, more: &[Atom]) -> Result<(), AllocError>
+    ensures all { OnOk result (all.new.items ≡ all.old.items ++ more.now) }
+    ensures first { take (length all.old.items) all.new.items ≡ all.old.items }
+{
+    for atom in more {
+        all.push(copy_atom(alloc, atom)?)?;
+    }
+    Ok(())
+}
