@@ -193,6 +193,13 @@ of_untested g h = (
   sym (ap (λ ks. is_numbered 0 ((flat_map unknowns g.carry.times ++ flat_map (λ left. left_unknowns left.item) g.rest) ++ ks)) (untested_unknowns g.limits)) ∙ h.1,
 )
 
+-- and so it is without them
+pub canonical_untested : (g : Shape) → IsCanonical g → IsCanonical (untested g)
+canonical_untested g h = (
+  h.0,
+  ap (λ ks. is_numbered 0 ((flat_map unknowns g.carry.times ++ flat_map (λ left. left_unknowns left.item) g.rest) ++ ks)) (untested_unknowns g.limits) ∙ h.1,
+)
+
 -- a place has one residual
 pub residual_unique : (seq : Sequence) (s : Values) (t : Times) → AreAllGround s → (place : Place) (n m : Node) →
     IsResidual seq s t place n → IsResidual seq s t place m → n.alternative ≡ m.alternative → n ≡ m

@@ -22,7 +22,8 @@ use Rattle.lps_terms.specs.declared.term.Term.TheFolds.{fold-Term}
 use Rattle.lps_terms.specs.Forms.{term_ind, fold-Int, fold-Sym, fold-App, fold-Var}
 use Rattle.lps_terms.specs.Names.{is_proper_name}
 use Rattle.lps_terms.specs.Put.{put, put_atom, put-Int, put-Sym, put-App, put-Var}
-use Rattle.lps_model.specs.Formed.{is_formed_atom, is_formed_built, is_formed_expr, is_formed_item, is_formed_term, is_formed-App, is_formed-Apply, is_formed-Int, is_formed-Leaf, is_formed-Sym, is_word}
+use Rattle.lps_model.specs.Formed.{is_formed_atom, is_formed_built, is_formed_expr, is_formed_item, is_formed_term, is_formed-App, is_formed-Apply, is_formed-Int, is_formed-Leaf, is_formed-Sym}
+use Rattle.lps_terms.specs.Integers.{is_i64}
 use Rattle.lps_derivation.specs.Expressions.{put_expr, put_expr-Leaf, put_expr-Apply, expr_ind}
 use Rattle.lps_derivation.specs.Ground.{is_ground, is_ground-App, is_ground-Int, is_ground-Sym, is_ground-Var}
 use Rattle.lps_derivation.specs.Instances.{put_built}
@@ -47,7 +48,7 @@ is_call name count = is_proper_name name && nat_lt 0 count && nat_le count 64
 
 -- one form cleaned, with each argument cleaned in its place
 abbrev clean_step : Term-F Term → Term
-clean_step (Term-F.Int z) = cond (is_word z) (t.Int z) nought
+clean_step (Term-F.Int z) = cond (is_i64 z) (t.Int z) nought
 clean_step (Term-F.Sym name) = cond (is_proper_name name) (t.Sym name) nought
 clean_step (Term-F.App name args) = cond (is_call name (length args)) (t.App name args) nought
 clean_step (Term-F.Var v) = nought
@@ -56,7 +57,7 @@ clean_step (Term-F.Var v) = nought
 abbrev pub clean : Term → Term
 clean = fold-Term Term clean_step
 
-clean-Int : (z : ℤ) → clean (t.Int z) ≡ cond (is_word z) (t.Int z) nought
+clean-Int : (z : ℤ) → clean (t.Int z) ≡ cond (is_i64 z) (t.Int z) nought
 clean-Int = fold-Int Term clean_step
 
 clean-Sym : (n : List ℕ) → clean (t.Sym n) ≡ cond (is_proper_name n) (t.Sym n) nought
@@ -79,7 +80,7 @@ all_ground (x ∷ ts) h = let more = all_ground ts h.1 in λ j. h.0 j && more j
 
 pub clean_ground : (x : Term) → is_ground (clean x) ≡ true
 clean_ground = term_ind (λ x. is_ground (clean x) ≡ true)
-    (λ z. ap is_ground (clean-Int z) ∙ chosen_ground (is_word z) (t.Int z) (λ h. is_ground-Int z ∙ h))
+    (λ z. ap is_ground (clean-Int z) ∙ chosen_ground (is_i64 z) (t.Int z) (λ h. is_ground-Int z ∙ h))
     (λ n. ap is_ground (clean-Sym n) ∙ chosen_ground (is_proper_name n) (t.Sym n) (λ h. is_ground-Sym n ∙ h))
     (λ n ts each. ap is_ground (clean-App n ts) ∙ chosen_ground (is_call n (length ts)) (t.App n (map clean ts))
     (λ h.
@@ -203,3 +204,23 @@ module _ (variables : ℕ) (f : ℕ → Term) where
       let atom = clean_put_atom a (both (is_formed_atom variables a) (nat_lt from.0 times) (both (is_formed_atom variables a && nat_lt from.0 times) (nat_lt to.0 times) h).0).0 in
       λ j. i.Span (atom j) from to
   clean_put_item times (i.Con con) h = refl
+
+-- ---- what was cleaned is ground
+
+pub cleaned_terms : (ts : List Term) → list_all is_ground (map clean ts) ≡ true
+cleaned_terms ts = all_ground ts (each ts)
+  where
+    each : (ts : List Term) → AllByRecursion (λ x. is_ground (clean x) ≡ true) ts
+    each [] = tt
+    each (x ∷ ts) = (clean_ground x, each ts)
+
+cleaned_expr : (x : Expr) → is_formed_expr 0 (clean_expr x) ≡ true
+cleaned_expr = expr_ind (λ x. is_formed_expr 0 (clean_expr x) ≡ true)
+    (λ x. ap (is_formed_expr 0) (clean_expr-Leaf x) ∙ is_formed-Leaf 0 (clean x) ∙ clean_ground x)
+    (λ op x y one two. ap (is_formed_expr 0) (clean_expr-Apply op x y) ∙ is_formed-Apply 0 op (clean_expr x) (clean_expr y) ∙ (λ j. one j && two j))
+
+pub cleaned_built : (x : Built) → is_formed_built 0 (clean_built x) ≡ true
+cleaned_built (b.Same x y) = λ j. clean_ground x j && clean_ground y j
+cleaned_built (b.Differ x y) = λ j. clean_ground x j && clean_ground y j
+cleaned_built (b.Is x sum) = λ j. clean_ground x j && cleaned_expr sum j
+cleaned_built (b.Compare rel x y) = λ j. cleaned_expr x j && cleaned_expr y j

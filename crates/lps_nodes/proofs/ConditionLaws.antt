@@ -221,7 +221,7 @@ module _ (text : Text) (u : Values) (w : Whens) (t : Times) (x : ℕ → ℕ) wh
   ShowsLast last shown = (p : Entry) (a : Atom) (from to : TimeVar) → last ≡ Some p → p.item ≡ i.Span a from to → shown ≡ Some (l.Span (put_atom (u p.env) a) (w p.env from.0) (w p.env to.0))
 
   -- a span that was before ended there
-  abbrev EndedAt : ℕ → Option LeftItem → Type 0
+  abbrev pub EndedAt : ℕ → Option LeftItem → Type 0
   EndedAt before (Some (l.Span a from to)) = before ≡ time_in x to
   EndedAt before _ = Unit {0}
 
@@ -254,7 +254,7 @@ module _ (text : Text) (u : Values) (w : Whens) (t : Times) (x : ℕ → ℕ) wh
       by_item (i.Con con) same grouped = absurd (false_true grouped)
 
   -- where an item left goes on with the one before it, it ends when that did
-  together_ends : (before : ℕ) (shown : Option LeftItem) (a : Atom) (from to : When) → EndedAt before shown → goes_on text shown (l.Span a from to) ≡ true → before ≡ time_in x to
+  pub together_ends : (before : ℕ) (shown : Option LeftItem) (a : Atom) (from to : When) → EndedAt before shown → goes_on text shown (l.Span a from to) ≡ true → before ≡ time_in x to
   together_ends before None a from to ends h = absurd (false_true h)
   together_ends before (Some (l.Span b from' to')) a from to ends h =
       let one = and_true (happens (kind_of text b.name)) _ h in
@@ -414,7 +414,7 @@ module _ (text : Text) (u : Values) (w : Whens) (t : Times) (x : ℕ → ℕ) wh
   no_call_joins (Some (l.Built built)) a from to macro h = false_true h
 
   -- in order, a span that ends when the one before it did is marked, where it is no call
-  span_marked : (macro joins : Bool) (before from to : ℕ) → macro ≡ false → before ≡ to → IsSpanPlaced macro joins before from to → joins ≡ true
+  pub span_marked : (macro joins : Bool) (before from to : ℕ) → macro ≡ false → before ≡ to → IsSpanPlaced macro joins before from to → joins ≡ true
   span_marked true joins before from to plain ends h = absurd (false_true (sym plain))
   span_marked false true before from to plain ends h = refl
   span_marked false false before from to plain ends h = let one = h.0 in let two = h.1 in absurd (omega (arith, ends, one, two))

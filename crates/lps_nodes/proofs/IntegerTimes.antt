@@ -1,6 +1,6 @@
 -- The time conditions of what is left have a solution in integers exactly where they have one in natural numbers: the items left
 -- stand in order after now, so their times are not negative.
-use Rattle.std.proofs.Common.{ℕ, ℤ, pos, negsuc, Bool, true, false, ◌≡◌, ◌≤◌, ◌<◌, List, [], ◌∷◌, ◌++◌, refl, sym, subst, arith}
+use Rattle.std.proofs.Common.{ℕ, ℤ, pos, negsuc, Bool, true, false, ◌≡◌, ◌≤◌, ◌<◌, List, [], ◌∷◌, ◌++◌, ◌∙◌, refl, sym, ap, subst, arith}
 use Rattle.std.specs.Prelude.{◌+ℤ◌, ◌≤ℤ◌, ◌<ℤ◌, Option, Some, None, Contains}
 use Rattle.std.specs.List.{AllByRecursion, flat_map}
 use Rattle.std.proofs.lemmas.Int.{ints}
@@ -15,6 +15,7 @@ use Rattle.lps_meaning.specs.declared.node.LeftItem.TheVariants as l
 use Rattle.lps_meaning.specs.declared.when.When.{When}
 use Rattle.lps_meaning.specs.declared.when.When.TheVariants.{Known, Unknown}
 use Rattle.lps_nodes.specs.Conditions.{time_in, is_same_time, goes_on, IsLeftPlaced, left_end, AreLeftInOrder, IsLeftAhead, IsLeftLimit, CanComeTrue}
+use Rattle.lps_nodes.specs.NextSteps.{IsBegun, IsBegunIn, MayBegin, MayBeginIn}
 use Rattle.lps_nodes.specs.Integers.{integer_in, IsSpanPlacedIn, IsLeftPlacedIn, left_end_in, AreLeftInOrderIn, IsLeftAheadIn, IsLeftLimitIn, CanComeTrueIn, AreTimesLeft}
 use Rattle.lps_model.specs.Rules.{kind_of, is_macro}
 use Rattle.lps_meaning.specs.Sequences.{IsSpanPlaced, Relates}
@@ -130,29 +131,39 @@ module _ (text : Text) (x : ℕ → ℤ) (y : ℕ → ℕ) where
   first_same : (rest : List Left) (first : Left) (behind : List Left) → rest ≡ first ∷ behind → AllByRecursion SameLeft rest → SameLeft first
   first_same rest first behind e same = (subst (AllByRecursion SameLeft) e same).0
 
-  pub to_integers : (now : ℕ) (g : Shape) (can : CanComeTrue text now g) → can.times ≡ y → AllByRecursion SameLeft g.rest → AllByRecursion SameCon g.limits → CanComeTrueIn text now g
-  to_integers now g can e same cons = record {
-    times = x;
-    first = can.first;
-    behind = can.behind;
-    is_first = can.is_first;
-    ahead = ahead_to now can.first.item (first_same g.rest can.first can.behind can.is_first same) (subst (λ z. IsLeftAhead now z can.first.item) e can.ahead);
-    in_order = order_to now None g.rest same (subst (λ z. AreLeftInOrder text z now None g.rest) e can.in_order);
-    limits = limits_to g.limits cons (subst (λ z. AllByRecursion (IsLeftLimit z) g.limits) e can.limits);
-    small = can.small;
-  }
+  pub to_integers : (now : ℕ) (g : Shape) (can : CanComeTrue text now g) → can.times ≡ y → AllByRecursion SameLeft g.rest → AllByRecursion SameCon g.limits →
+      (c : CanComeTrueIn text now g) × (c.times ≡ x) × (c.first ≡ can.first)
+  to_integers now g can e same cons = (
+    record {
+      times = x;
+      first = can.first;
+      behind = can.behind;
+      is_first = can.is_first;
+      ahead = ahead_to now can.first.item (first_same g.rest can.first can.behind can.is_first same) (subst (λ z. IsLeftAhead now z can.first.item) e can.ahead);
+      in_order = order_to now None g.rest same (subst (λ z. AreLeftInOrder text z now None g.rest) e can.in_order);
+      limits = limits_to g.limits cons (subst (λ z. AllByRecursion (IsLeftLimit z) g.limits) e can.limits);
+      small = can.small;
+    },
+    refl,
+    refl,
+  )
 
-  pub to_naturals : (now : ℕ) (g : Shape) (can : CanComeTrueIn text now g) → can.times ≡ x → AllByRecursion SameLeft g.rest → AllByRecursion SameCon g.limits → CanComeTrue text now g
-  to_naturals now g can e same cons = record {
-    times = y;
-    first = can.first;
-    behind = can.behind;
-    is_first = can.is_first;
-    ahead = ahead_from now can.first.item (first_same g.rest can.first can.behind can.is_first same) (subst (λ z. IsLeftAheadIn now z can.first.item) e can.ahead);
-    in_order = order_from now None g.rest same (subst (λ z. AreLeftInOrderIn text z (pos now) None g.rest) e can.in_order);
-    limits = limits_from g.limits cons (subst (λ z. AllByRecursion (IsLeftLimitIn z) g.limits) e can.limits);
-    small = can.small;
-  }
+  pub to_naturals : (now : ℕ) (g : Shape) (can : CanComeTrueIn text now g) → can.times ≡ x → AllByRecursion SameLeft g.rest → AllByRecursion SameCon g.limits →
+      (c : CanComeTrue text now g) × (c.times ≡ y) × (c.first ≡ can.first)
+  to_naturals now g can e same cons = (
+    record {
+      times = y;
+      first = can.first;
+      behind = can.behind;
+      is_first = can.is_first;
+      ahead = ahead_from now can.first.item (first_same g.rest can.first can.behind can.is_first same) (subst (λ z. IsLeftAheadIn now z can.first.item) e can.ahead);
+      in_order = order_from now None g.rest same (subst (λ z. AreLeftInOrderIn text z (pos now) None g.rest) e can.in_order);
+      limits = limits_from g.limits cons (subst (λ z. AllByRecursion (IsLeftLimitIn z) g.limits) e can.limits);
+      small = can.small;
+    },
+    refl,
+    refl,
+  )
 
 -- ---- natural numbers as integers
 
@@ -175,8 +186,11 @@ module _ (text : Text) (y : ℕ → ℕ) where
   same_cons [] = tt
   same_cons (con ∷ cons) = ((same_time con.left, same_time con.right), same_cons cons)
 
+in_integers : (text : Text) (now : ℕ) (g : Shape) (can : CanComeTrue text now g) → (c : CanComeTrueIn text now g) × (c.times ≡ (λ k. pos (can.times k))) × (c.first ≡ can.first)
+in_integers text now g can = to_integers text (λ k. pos (can.times k)) can.times now g can refl (same_rest text can.times g.rest) (same_cons text can.times g.limits)
+
 pub can_in_integers : (text : Text) (now : ℕ) (g : Shape) → CanComeTrue text now g → CanComeTrueIn text now g
-can_in_integers text now g can = to_integers text (λ k. pos (can.times k)) can.times now g can refl (same_rest text can.times g.rest) (same_cons text can.times g.limits)
+can_in_integers text now g can = (in_integers text now g can).0
 
 -- ---- integers that are not negative
 
@@ -267,8 +281,9 @@ module _ (text : Text) (x : ℕ → ℤ) where
         cons_same cons (all_behind IsLow (unknowns con.left ++ unknowns con.right) (flat_map (λ con. unknowns con.left ++ unknowns con.right) cons) low),
       )
 
-pub can_in_naturals : (text : Text) (now : ℕ) (g : Shape) → AreTimesLeft g → CanComeTrueIn text now g → CanComeTrue text now g
-can_in_naturals text now g left can =
+in_naturals : (text : Text) (now : ℕ) (g : Shape) → AreTimesLeft g → (can : CanComeTrueIn text now g) →
+    (c : CanComeTrue text now g) × (c.times ≡ (λ k. natural (can.times k))) × (c.first ≡ can.first)
+in_naturals text now g left can =
     let x = can.times in
     let unknown_in_rest = flat_map (λ (left : Left). left_unknowns left.item) g.rest in
     let low : AllByRecursion (IsLow text x) unknown_in_rest = rest_low text x (pos now) None g.rest (at_least_none now) tt can.in_order in
@@ -276,3 +291,38 @@ can_in_naturals text now g left can =
     (cons_same text x g.limits
     (all_to (Contains unknown_in_rest) (IsLow text x) (λ k among. All-contains (IsLow text x) unknown_in_rest k (All-from_recursion (IsLow text x) unknown_in_rest low) among)
     (flat_map (λ con. unknowns con.left ++ unknowns con.right) g.limits) left))
+
+pub can_in_naturals : (text : Text) (now : ℕ) (g : Shape) → AreTimesLeft g → CanComeTrueIn text now g → CanComeTrue text now g
+can_in_naturals text now g left can = (in_naturals text now g left can).0
+
+-- ---- the next step begins now
+
+time_there : (y : ℕ → ℕ) (time : When) → integer_in (λ k. pos (y k)) time ≡ pos (time_in y time)
+time_there y (Known n) = refl
+time_there y (Unknown k) = refl
+
+time_back : (x : ℕ → ℤ) (time : When) → time_in (λ k. natural (x k)) time ≡ natural (integer_in x time)
+time_back x (Known n) = refl
+time_back x (Unknown k) = refl
+
+begun_there : (now : ℕ) (y : ℕ → ℕ) (item : LeftItem) → IsBegun now y item → IsBegunIn now (λ k. pos (y k)) item
+begun_there now y (l.Span a from to) h = time_there y from ∙ ap (λ n. pos n) h
+begun_there now y (l.At lit time) h = h
+begun_there now y (l.Bare lit) h = h
+begun_there now y (l.Built built) h = h
+
+begun_back : (now : ℕ) (x : ℕ → ℤ) (item : LeftItem) → IsBegunIn now x item → IsBegun now (λ k. natural (x k)) item
+begun_back now x (l.Span a from to) h = time_back x from ∙ ap natural h
+begun_back now x (l.At lit time) h = h
+begun_back now x (l.Bare lit) h = h
+begun_back now x (l.Built built) h = h
+
+pub may_in_integers : (text : Text) (now : ℕ) (g : Shape) → MayBegin text now g → MayBeginIn text now g
+may_in_integers text now g may =
+    let c = in_integers text now g may.can in
+    record { can = c.0; begun = subst (λ (f : Left). IsBegunIn now c.0.times f.item) (sym c.2) (subst (λ x. IsBegunIn now x may.can.first.item) (sym c.1) (begun_there now may.can.times may.can.first.item may.begun)) }
+
+pub may_in_naturals : (text : Text) (now : ℕ) (g : Shape) → AreTimesLeft g → MayBeginIn text now g → MayBegin text now g
+may_in_naturals text now g left may =
+    let c = in_naturals text now g left may.can in
+    record { can = c.0; begun = subst (λ (f : Left). IsBegun now c.0.times f.item) (sym c.2) (subst (λ x. IsBegun now x may.can.first.item) (sym c.1) (begun_back now may.can.times may.can.first.item may.begun)) }

@@ -135,7 +135,7 @@ walk_then end (pass env nest joins item rest left no_call is_true small placed w
 walk_then end (replace e rest a from to number clause left item macro named values times small walk) more =
     replace e rest a from to number clause left item macro named values times small (walk_then end walk more)
 
-fresh_along : (text : Text) (q : Sequence) (s : Values) (t : Times) (ground : AreAllGround s) (level : List ℕ → ℕ) (trace : Trace) {now : ℕ} {end place : Place} →
+pub fresh_along : (text : Text) (q : Sequence) (s : Values) (t : Times) (ground : AreAllGround s) (level : List ℕ → ℕ) (trace : Trace) {now : ℕ} {end place : Place} →
     Walk text level trace q.given_values s t now end place → IsFresh text q s t ground place → IsFresh text q s t ground end
 fresh_along text q s t ground level trace stop h = h
 fresh_along text q s t ground level trace {place = place} (pass env nest joins item rest left no_call is_true small placed walk) h =

@@ -1,6 +1,6 @@
 -- Steps made on a shape alone at one time, one after the other, are those of a walk.
-use Rattle.std.proofs.Common.{ℕ, suc, Bool, true, false, ◌≡◌, ◌≤◌, List, [], ◌∷◌, ◌++◌, ◌∙◌, map, refl, sym, ap, subst, arith}
-use Rattle.std.specs.Prelude.{IsTrue, Option, Some, None}
+use Rattle.std.proofs.Common.{ℕ, suc, Bool, true, false, cond, ◌≡◌, ◌≤◌, List, [], ◌∷◌, ◌++◌, ◌∙◌, map, refl, sym, ap, subst, arith}
+use Rattle.std.specs.Prelude.{IsTrue, Option, Some, None, not, reverse, if◌then◌else◌}
 use Rattle.std.specs.List.{AllByRecursion, flat_map, list_all}
 use Rattle.lps_terms.specs.declared.atom.Atom.{Atom}
 use Rattle.lps_terms.specs.declared.built.Built.{Built}
@@ -24,12 +24,12 @@ use Rattle.lps_meaning.specs.declared.node.LeftItem.{LeftItem}
 use Rattle.lps_meaning.specs.declared.node.LeftItem.TheVariants as l
 use Rattle.lps_meaning.specs.declared.when.When.{When}
 use Rattle.lps_meaning.specs.declared.when.When.TheVariants.{Known, Unknown}
-use Rattle.lps_nodes.specs.Alone.{Alone, stay, meet, enter, IsLeftTrue, IsToldItem, Stage}
+use Rattle.lps_nodes.specs.Alone.{Alone, stay, meet, enter, IsLeftTrue, IsToldItem, Stage, done_then}
 use Rattle.lps_nodes.specs.Conditions.{IsLeftPlaced, IsLeftSmall, goes_on, left_end, time_in}
 use Rattle.lps_meaning.specs.Items.{put_item, IsSmallItem}
-use Rattle.lps_nodes.specs.Laws.{IsOfText, IsWalked}
+use Rattle.lps_nodes.specs.Laws.{IsOfText, IsStageAt, IsWalked}
 use Rattle.lps_model.specs.Rules.{MacroClause, clauses_of, is_macro, kind_of, numbered}
-use Rattle.lps_meaning.specs.Sequences.{Entry, Place, Values, Times, Walk, stop, pass, replace, start, entries, passed, replaced, link_at, end_of, is_call, IsPlaced, IsSpanPlaced, IsTrueItem}
+use Rattle.lps_meaning.specs.Sequences.{Entry, Place, Values, Times, Walk, stop, pass, replace, start, entries, passed, replaced, link_at, end_of, is_call, done, rank, starts_group, Link, IsPlaced, IsSpanPlaced, IsTrueItem, IsWithin}
 use Rattle.lps_nodes.specs.Shapes.{Sequence, Shape, Whens, put_left, left_of, left_at, IsGeneral}
 use Rattle.lps_nodes.specs.Steps.{PassesTo, UnfoldsTo}
 use Rattle.lps_nodes.proofs.Cleaning.{all_stay, clean, clean_atom, clean_built, clean_expr, clean_expr-Apply, clean_expr-Leaf, clean_ground, clean_item, clean_lit, clean_put_item, clean_stays}
@@ -38,6 +38,7 @@ use Rattle.lps_nodes.proofs.ConditionLaws.{AreMarked, false_true, item_or, marke
 use Rattle.lps_nodes.proofs.Existence.{pass_none}
 use Rattle.lps_nodes.proofs.Freshness.{IsNone}
 use Rattle.lps_meaning.proofs.Formed.{IsFormedItem}
+use Rattle.lps_nodes.proofs.LeadingOn.{done_begun, done_plain, rank_more}
 use Rattle.lps_nodes.proofs.Lifting.{IsFormedPlace, formed_along, lift_pass_as, lift_unfold, sequence_formed, start_formed, walk_clean, walk_then}
 use Rattle.lps_nodes.proofs.Moves.{end_moved}
 use Rattle.lps_nodes.proofs.NodeLaws.{left_from, left_is}
@@ -212,7 +213,48 @@ met_end f c nest before since (i.Con con) met le e = absurd (nothing e)
     nothing : [] ≡ met ∷ [] → ⊥
     nothing e = cc
 
+-- a group that an entry begins is one that the item begins
+met_done : (f : ℕ → Term) (c : ℕ → ℕ) (nest n : ℕ) (joins goes : Bool) (item : Item) (met : Left) → left_of f (λ v. Known (c v)) nest item ≡ met ∷ [] → (is_span item ≡ true → joins ≡ goes) →
+    cond (starts_group joins item) (suc n) n ≡ done_then n goes met.item
+met_done f c nest n joins goes (i.At lit time) met e same = ap (λ ls. done_then n goes (item_or met.item ls)) e
+met_done f c nest n joins goes (i.Bare lit) met e same = ap (λ ls. done_then n goes (item_or met.item ls)) e
+met_done f c nest n joins goes (i.Built built) met e same = ap (λ ls. done_then n goes (item_or met.item ls)) e
+met_done f c nest n joins goes (i.Span a from to) met e same =
+    ap (λ b. cond (not b) (suc n) n) (same refl) ∙ by goes ∙ ap (λ ls. done_then n goes (item_or met.item ls)) e
+  where
+    by : (b : Bool) → cond (not b) (suc n) n ≡ (if b then n else suc n)
+    by true = refl
+    by false = refl
+met_done f c nest n joins goes (i.Con con) met e same = absurd (nothing e)
+  where
+    nothing : [] ≡ met ∷ [] → ⊥
+    nothing e = cc
+
+done_next : (t : Times) (place : Place) (e : Entry) (rest : List Entry) (b : Bool) → starts_group e.joins e.item ≡ b → done (passed t place e rest) ≡ cond b (suc (done place)) (done place)
+done_next t place e rest true begun = done_begun t place e rest begun
+done_next t place e rest false begun = done_plain t place e rest begun
+
+-- where the step before ended with it, an item goes on with the one met last
+goes_true : (macro goes : Bool) (had before from to : ℕ) → macro ≡ false → had ≤ before → had ≡ to → to ≡ suc from → IsSpanPlaced macro goes before from to → goes ≡ true
+goes_true true goes had before from to plain le ends one placed = absurd (false_true (sym plain))
+goes_true false true had before from to plain le ends one placed = refl
+goes_true false false had before from to plain le ends one placed = let begins = placed.1 in absurd (omega (arith, le, ends, one, begins))
+
 -- ---- what the entry is from the item left
+
+abbrev nest_or : ℕ → List Left → ℕ
+nest_or d [] = d
+nest_or d (left ∷ rest) = left.nest
+
+nest_is : (u : ℕ → Term) (w : ℕ → When) (nest : ℕ) (item : Item) (left : Left) → left_of u w nest item ≡ left ∷ [] → nest ≡ left.nest
+nest_is u w nest (i.At lit time) left e = ap (nest_or nest) e
+nest_is u w nest (i.Bare lit) left e = ap (nest_or nest) e
+nest_is u w nest (i.Built built) left e = ap (nest_or nest) e
+nest_is u w nest (i.Span a from to) left e = ap (nest_or nest) e
+nest_is u w nest (i.Con con) left e = absurd (nothing e)
+  where
+    nothing : [] ≡ left ∷ [] → ⊥
+    nothing e = cc
 
 abbrev span_left : LeftItem → Bool
 span_left (l.Span a from to) = true
@@ -261,7 +303,8 @@ to_in _ = 0
 
 -- ---- along steps
 
-module _ (text : Text) (accepted : IsAccepted text) (formed : IsTrue (is_formed text)) (level : List ℕ → ℕ) (trace : Trace) (q : Sequence) (of_text : IsOfText text q) (since later : ℕ) (low : since ≤ later) where
+module _ (text : Text) (accepted : IsAccepted text) (formed : IsTrue (is_formed text)) (level : List ℕ → ℕ) (trace : Trace) (depth : ℕ) (q : Sequence) (of_text : IsOfText text q) (since later : ℕ)
+    (low : since ≤ later) where
   -- a walk by now to the place, where this is the most general shape
   abbrev IsAt : Values → Times → Place → Shape → Type 0
   IsAt s t place g = IsWalked text level trace q s t since later (λ times. place) g
@@ -278,10 +321,12 @@ module _ (text : Text) (accepted : IsAccepted text) (formed : IsTrue (is_formed 
   }
 
   -- behind constraints: the first entry left is the first item left
-  record IsOpened (s : Values) (t : Times) (before : ℕ) (g : Shape) : Type 0 where
+  record IsOpened (s : Values) (t : Times) (here : Place) (g : Shape) : Type 0 where
     place : Place
     at : IsAt s t place g
-    same : place.before ≡ before
+    same : place.before ≡ here.before
+    links : place.links ≡ here.links
+    groups : done place ≡ done here
     next : Entry
     rest : List Entry
     left : place.left ≡ next ∷ rest
@@ -291,7 +336,7 @@ module _ (text : Text) (accepted : IsAccepted text) (formed : IsTrue (is_formed 
   rest_is s t place g at = ap (λ h. h.rest) at.general.own
 
   skip_con : (s : Values) (t : Times) (place : Place) (g : Shape) (at : IsAt s t place g) (e : Entry) (es : List Entry) → place.left ≡ e ∷ es → is_con e.item ≡ true → (con_item : Item) → e.item ≡ con_item →
-      (beyond : Place) × IsAt s t beyond g × (beyond.before ≡ place.before) × (beyond.left ≡ es)
+      (beyond : Place) × IsAt s t beyond g × (beyond.before ≡ place.before) × (beyond.left ≡ es) × (beyond.links ≡ place.links) × (done beyond ≡ done place)
   skip_con s t place g at e es left con (i.Con con_of) is =
       let beyond : Place = passed at.times place e es in (
         beyond,
@@ -310,27 +355,40 @@ module _ (text : Text) (accepted : IsAccepted text) (formed : IsTrue (is_formed 
         },
         ap (end_of (at.times e.env) place.before) is,
         refl,
+        refl,
+        done_plain at.times place e es (ap (starts_group e.joins) is),
       )
   skip_con s t place g at e es left con (i.At lit time) is = absurd (false_true (sym (ap is_con is) ∙ con))
   skip_con s t place g at e es left con (i.Bare lit) is = absurd (false_true (sym (ap is_con is) ∙ con))
   skip_con s t place g at e es left con (i.Built built) is = absurd (false_true (sym (ap is_con is) ∙ con))
   skip_con s t place g at e es left con (i.Span a from to) is = absurd (false_true (sym (ap is_con is) ∙ con))
 
-  skip : (es : List Entry) (s : Values) (t : Times) (place : Place) (g : Shape) → place.left ≡ es → IsAt s t place g → (first : Left) (behind : List Left) → g.rest ≡ first ∷ behind → IsOpened s t place.before g
+  skip : (es : List Entry) (s : Values) (t : Times) (place : Place) (g : Shape) → place.left ≡ es → IsAt s t place g → (first : Left) (behind : List Left) → g.rest ≡ first ∷ behind → IsOpened s t place g
   skip [] s t place g left at first behind e = absurd (nothing (sym (ap (flat_map (left_at at.general.values at.general.whens)) left) ∙ sym (rest_is s t place g at) ∙ e))
     where
       nothing : [] ≡ first ∷ behind → ⊥
       nothing e = cc
   skip (o ∷ es) s t place g left at first behind e = by (skip es s t) (is_con o.item) refl
     where
-      by : ((place : Place) (g : Shape) → place.left ≡ es → IsAt s t place g → (first : Left) (behind : List Left) → g.rest ≡ first ∷ behind → IsOpened s t place.before g) →
-          (con : Bool) → is_con o.item ≡ con → IsOpened s t place.before g
+      by : ((place : Place) (g : Shape) → place.left ≡ es → IsAt s t place g → (first : Left) (behind : List Left) → g.rest ≡ first ∷ behind → IsOpened s t place g) →
+          (con : Bool) → is_con o.item ≡ con → IsOpened s t place g
       by more true is =
           let k = skip_con s t place g at o es left is o.item refl in
-          subst (λ before. IsOpened s t before g) k.2 (more k.0 g k.3 k.1 first behind e)
-      by more false is = record { place = place; at = at; same = refl; next = o; rest = es; left = left; no_con = is }
+          let r = more k.0 g k.3 k.1 first behind e in
+          record {
+            place = r.place;
+            at = r.at;
+            same = r.same ∙ k.2;
+            links = r.links ∙ k.4;
+            groups = r.groups ∙ k.5;
+            next = r.next;
+            rest = r.rest;
+            left = r.left;
+            no_con = r.no_con;
+          }
+      by more false is = record { place = place; at = at; same = refl; links = refl; groups = refl; next = o; rest = es; left = left; no_con = is }
 
-  module _ (s : Values) (t : Times) (before : ℕ) (last : Option LeftItem) (told_last : IsLastTold last) (g : Shape) (had : ℕ) (earlier : had ≤ before) (o : IsOpened s t had g) (first : Left) (behind : List Left)
+  module _ (s : Values) (t : Times) (before : ℕ) (last : Option LeftItem) (told_last : IsLastTold last) (g : Shape) (here : Place) (earlier : here.before ≤ before) (o : IsOpened s t here g) (first : Left) (behind : List Left)
       (is_first : g.rest ≡ first ∷ behind) where
     abbrev place : Place
     place = o.place
@@ -437,18 +495,35 @@ module _ (text : Text) (accepted : IsAccepted text) (formed : IsTrue (is_formed 
           by true e = absurd (no_end plain span e)
           by false e = e
 
+      le : place.before ≤ before
+      le = let same = o.same in omega (arith, same, earlier)
+
+      placed_as : AllByRecursion (λ (left : Left). IsLeftPlaced text (λ k. 0) before (goes_on text last first.item) left.item) (left_of f (λ v. Known (c v)) next.nest next.item)
+      placed_as = subst (AllByRecursion (λ (left : Left). IsLeftPlaced text (λ k. 0) before (goes_on text last first.item) left.item)) (sym told_is) (placed, tt)
+
+      -- an entry is marked exactly where it is shown to go on with the item met last
+      same_flags : is_span next.item ≡ true → next.joins ≡ goes_on text last first.item
+      same_flags span = by next.joins refl
+        where
+          by : (b : Bool) → next.joins ≡ b → b ≡ goes_on text last first.item
+          by true joins =
+              let a = as_span next.item span in
+              let group = of_group joins a.0 a.1 a.2 a.3 in
+              let as_placed = (subst (λ (it : Item). AllByRecursion (λ (left : Left). IsLeftPlaced text (λ k. 0) before (goes_on text last first.item) left.item) (left_of f (λ v. Known (c v)) next.nest it)) a.3 placed_as).0 in
+              sym (goes_true (is_macro (kind_of text a.0.name)) (goes_on text last first.item) place.before before (c a.1.0) (c a.2.0) (sym (ap (is_call text) a.3) ∙ no_call) le group.0 group.1 as_placed)
+          by false plain = sym (not_on plain span)
+
       -- the walk goes on past the entry
-      past_it : (beyond : Place) × IsAt s t beyond h × (beyond.before ≤ left_end (λ k. 0) before met.item)
+      past_it : (beyond : Place) × IsAt s t beyond h × (beyond.before ≤ left_end (λ k. 0) before met.item) × (beyond.links ≡ place.links)
+          × (done beyond ≡ done_then (done place) (goes_on text last first.item) met.item)
       past_it =
-          let le : place.before ≤ before = let same = o.same in omega (arith, same, earlier) in
           let walked = lift_pass_as text formed level trace q of_text at.values at.times at.ground since later later (omega arith) place at.walk g is next o.rest o.left no_call f c
           (λ v. clean_ground (u1 next.env v)) (met_true text level trace later f c next.nest next.item mets)
           (met_small f c next.nest next.item (subst (AllByRecursion (λ (left : Left). IsLeftSmall left.item)) (sym told_is) (small, tt)))
-          (met_placed text f c next.nest place.before before next.joins (goes_on text last first.item) next.item le no_call of_group not_on
-          (subst (AllByRecursion (λ (left : Left). IsLeftPlaced text (λ k. 0) before (goes_on text last first.item) left.item)) (sym told_is) (placed, tt)))
+          (met_placed text f c next.nest place.before before next.joins (goes_on text last first.item) next.item le no_call of_group not_on placed_as)
           h (subst (λ ls. PassesTo ls g h) (sym told_is) step) in
           let beyond : Place = passed walked.0.times place next o.rest in
-          let here : IsAt at.values at.times beyond h = record {
+          let reached : IsAt at.values at.times beyond h = record {
             values = walked.0.values;
             times = walked.0.times;
             ground = walked.0.ground;
@@ -458,28 +533,54 @@ module _ (text : Text) (accepted : IsAccepted text) (formed : IsTrue (is_formed 
             general = walked.0.general;
           } in
           let ends = met_end f c next.nest place.before before next.item met le told_is in
-          let same = end_moved (λ env. f) walked.0.values (λ env. c) walked.0.times next.env next.nest place.before next.item (sym walked.1) in
-          (beyond, through s t place beyond g h at here, subst (λ n. n ≤ left_end (λ k. 0) before met.item) same ends)
+          let same = end_moved (λ env. f) walked.0.values (λ env. c) walked.0.times next.env next.nest place.before next.item (sym walked.1) in (
+            beyond,
+            through s t place beyond g h at reached,
+            subst (λ n. n ≤ left_end (λ k. 0) before met.item) same ends,
+            refl,
+            done_next walked.0.times place next o.rest (starts_group next.joins next.item) refl
+                ∙ met_done f c next.nest (done place) next.joins (goes_on text last first.item) next.item met told_is same_flags,
+          )
 
     -- ---- a call is entered
 
-    into_it : (a : Atom) (from to : When) (number : ℕ) (clause : MacroClause) (h : Shape) → first.item ≡ l.Span a from to → is_macro (kind_of text a.name) ≡ true →
-        numbered (clauses_of text a.name) number ≡ Some clause → IsLeftSmall first.item → UnfoldsTo text clause g h → (beyond : Place) × IsAt s t beyond h × (beyond.before ≤ before)
-    into_it a from to number clause h item macro named small step =
+    into_it : (a : Atom) (from to : When) (number : ℕ) (clause : MacroClause) (h : Shape) → first.item ≡ l.Span a from to → is_macro (kind_of text a.name) ≡ true → suc first.nest ≤ depth →
+        numbered (clauses_of text a.name) number ≡ Some clause → IsLeftSmall first.item → UnfoldsTo text clause g h →
+        (beyond : Place) × IsAt s t beyond h × (beyond.before ≤ before) × (IsWithin depth place → IsWithin depth beyond) × (rank beyond ≡ rank place ++ number ∷ []) × (done beyond ≡ done place)
+    into_it a from to number clause h item macro deep named small step =
         let call = span_of (is.values next.env) (is.whens next.env) next.nest next.item first spells_first a from to item in
         let walked = lift_unfold text formed level trace q of_text at.values at.times at.ground since later later (omega arith) place at.walk g is next o.rest o.left call.0 call.1 call.2 call.3
         (subst (λ n. is_macro (kind_of text n) ≡ true) call.4 macro) number clause (subst (λ n. numbered (clauses_of text n) number ≡ Some clause) call.4 named) first behind is_first small h step in
         let beyond : Place = replaced text place (link_at place next call.0 call.1.0 call.2.0 number clause) o.rest in
-        (beyond, through s t place beyond g h at walked, let same = o.same in omega (arith, same, earlier))
+        let nest = nest_is (is.values next.env) (is.whens next.env) next.nest next.item first spells_first in (
+          beyond,
+          through s t place beyond g h at walked,
+          let same = o.same in omega (arith, same, earlier),
+          λ within. (omega (arith, nest, deep), within),
+          rank_more text place (link_at place next call.0 call.1.0 call.2.0 number clause) o.rest,
+          refl,
+        )
 
-  pub alone_walked : (s : Values) (t : Times) {end x : Stage} → Alone text level trace later end x → (here : Place) → IsAt s t here x.shape → here.before ≤ x.before → IsLastTold x.last →
-      (beyond : Place) × IsAt s t beyond end.shape
-  alone_walked s t stay here walked le told_last = (here, walked)
-  alone_walked s t {x = x} (meet first behind met h is_first told met_by small placed step more) here walked le told_last =
+  rank_same : (links others : List Link) → links ≡ others → map (λ (link : Link). link.number) (reverse links) ≡ map (λ (link : Link). link.number) (reverse others)
+  rank_same links others same = ap (λ ls. map (λ (link : Link). link.number) (reverse ls)) same
+
+  pub alone_walked : (s : Values) (t : Times) {end x : Stage} → Alone text level trace depth later end x → (here : Place) → IsAt s t here x.shape → IsStageAt depth here x → here.before ≤ x.before →
+      IsLastTold x.last → (beyond : Place) × IsStageAt depth beyond end × IsAt s t beyond end.shape
+  alone_walked s t stay here walked at le told_last = (here, at, walked)
+  alone_walked s t {x = x} (meet first behind met h is_first told met_by small placed step more) here walked at le told_last =
       let o = skip here.left s t here x.shape refl walked first behind is_first in
-      let r = past_it s t x.before x.last told_last x.shape here.before le o first behind is_first met h told met_by small placed step in
-      alone_walked s t more r.0 r.1 r.2 told
-  alone_walked s t {x = x} (enter first behind a from to number clause h is_first item macro named small step more) here walked le told_last =
+      let r = past_it s t x.before x.last told_last x.shape here le o first behind is_first met h told met_by small placed step in
+      let links = r.3 ∙ o.links in
+      alone_walked s t more r.0 r.1 (record {
+        within = subst (AllByRecursion (λ (link : Link). link.nest ≤ depth)) (sym links) at.within;
+        of_rank = at.of_rank ∙ rank_same here.links r.0.links (sym links);
+        of_done = ap (λ n. done_then n (goes_on text x.last first.item) met.item) (at.of_done ∙ sym o.groups) ∙ sym r.4;
+      }) r.2 told
+  alone_walked s t {x = x} (enter first behind a from to number clause h is_first item macro deep named small step more) here walked at le told_last =
       let o = skip here.left s t here x.shape refl walked first behind is_first in
-      let r = into_it s t x.before x.last told_last x.shape here.before le o first behind is_first a from to number clause h item macro named small step in
-      alone_walked s t more r.0 r.1 r.2 tt
+      let r = into_it s t x.before x.last told_last x.shape here le o first behind is_first a from to number clause h item macro deep named small step in
+      alone_walked s t more r.0 r.1 (record {
+        within = r.3 (subst (AllByRecursion (λ (link : Link). link.nest ≤ depth)) (sym o.links) at.within);
+        of_rank = ap (λ ns. ns ++ number ∷ []) (at.of_rank ∙ rank_same here.links o.place.links (sym o.links)) ∙ sym r.4;
+        of_done = at.of_done ∙ sym o.groups ∙ sym r.5;
+      }) r.2 tt

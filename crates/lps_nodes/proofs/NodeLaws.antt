@@ -31,7 +31,7 @@ use Rattle.lps_nodes.proofs.Sizes.{small_before}
 
 -- ---- lists
 
-all_self : {X A : Type 0} (f : X → A) (xs : List X) → AllByRecursion (λ x. f x ≡ f x) xs
+pub all_self : {X A : Type 0} (f : X → A) (xs : List X) → AllByRecursion (λ x. f x ≡ f x) xs
 all_self f [] = tt
 all_self f (x ∷ xs) = (refl, all_self f xs)
 
@@ -259,7 +259,7 @@ module _ (text : Text) (level : List ℕ → ℕ) (trace : Trace) (q : Sequence)
   abbrev links : AllByRecursion (HasSameValues s) end.links × AllByRecursion (HasSameTimes t) end.links
   links = linked text level trace q.given_values s t walk tt tt
 
-  known_whens : AllByRecursion (HasSameWhens (all_known t)) end.links
+  pub known_whens : AllByRecursion (HasSameWhens (all_known t)) end.links
   known_whens = all_to (HasSameTimes t) (HasSameWhens (all_known t)) (λ link h. (ap (λ n. Known n) h.0, ap (λ n. Known n) h.1)) end.links links.1
 
   -- the walk's own values and times are possible
@@ -273,61 +273,65 @@ module _ (text : Text) (level : List ℕ → ℕ) (trace : Trace) (q : Sequence)
     abbrev w : Whens
     w = is.whens
 
+    abbrev instance_own : (v : ℕ → Term) × (x : ℕ → When) × (shape_of q end s (all_known t) ≡ put_shape v x g)
+    instance_own = is.general s (all_known t) possible_own
+
+    abbrev x : ℕ → When
+    x = instance_own.1
+
+    abbrev pub y : ℕ → ℕ
+    y k = number_in (x k)
+
+    same_shape : shape_of q end (λ e. after instance_own.0 (u e)) (λ e. after_when x (w e)) ≡ shape_of q end s (all_known t)
+    same_shape = sym (shape_after text q s t ground end u w instance_own.0 x) ∙ ap (put_shape instance_own.0 x) (sym is.own) ∙ sym instance_own.2
+
+    pub times_are : AllByRecursion (λ e. TimesAre y (w e.env) (t e.env) e.item) end.left
+    times_are =
+        all_to (λ e. left_at (λ env. after instance_own.0 (u env)) (λ env. after_when x (w env)) e ≡ left_at s (all_known t) e) (λ e. TimesAre y (w e.env) (t e.env) e.item)
+        (λ e h. times_of (after instance_own.0 (u e.env)) (s e.env) (w e.env) x (t e.env) e.nest e.item h) end.left
+        (each_same (λ env. after instance_own.0 (u env)) s (λ env. after_when x (w env)) (all_known t) end.left (ap (λ h. h.rest) same_shape))
+
+    -- other values that are alike are possible too
+    abbrev Alike : Type 0
+    Alike = (other : Values) × AreAlike q.given_values s other end
+
+    possible_alike : (o : Alike) → IsPossible q s t end o.0 (all_known t)
+    possible_alike o = record {
+      values = sym o.1.start;
+      times = refl;
+      links = o.1.links;
+      when_links = known_whens;
+      past = all_to (λ e. put_item (s e.env) e.item ≡ put_item (o.0 e.env) e.item) (λ e. left_at o.0 (all_known t) e ≡ left_at s (all_known t) e)
+          (λ e h. left_is (o.0 e.env) (all_known t e.env) e.nest e.item ∙ ap (left_from (all_known t e.env) e.nest) (sym h) ∙ sym (left_is (s e.env) (all_known t e.env) e.nest e.item))
+          end.past o.1.past;
+    }
+
+    abbrev instance_alike : (o : Alike) → (v : ℕ → Term) × (x : ℕ → When) × (shape_of q end o.0 (all_known t) ≡ put_shape v x g)
+    instance_alike o = is.general o.0 (all_known t) (possible_alike o)
+
+    abbrev SameAs : Alike → Entry → Type 0
+    SameAs o e = left_at (λ env. after (instance_alike o).0 (u env)) (λ env. after_when (instance_alike o).1 (w env)) e ≡ left_at o.0 (all_known t) e
+
+    each_alike : (o : Alike) → AllByRecursion (SameAs o) end.left
+    each_alike o =
+        let r = instance_alike o in
+        each_same (λ env. after r.0 (u env)) o.0 (λ env. after_when r.1 (w env)) (all_known t) end.left
+        (ap (λ h. h.rest) (sym (shape_after text q s t ground end u w r.0 r.1) ∙ ap (put_shape r.0 r.1) (sym is.own) ∙ sym r.2))
+
+    small_one : (e : Entry) → ((o : Alike) → SameAs o e) → IsSmallSoFar q.given_values s end e → AllByRecursion (λ left. IsLeftSmall left.item) (left_at u w e)
+    small_one e same h =
+        let o : Alike = (h.other, h.alike) in
+        let r = instance_alike o in
+        let there : map (put_left r.0 r.1) (left_at u w e) ≡ left_at h.other (all_known t) e =
+        left_after r.0 (u e.env) r.1 (w e.env) e.nest e.item ∙ same o in
+        small_lefts r.0 r.1 (left_at u w e)
+        (subst (AllByRecursion (λ left. IsLeftSmall left.item)) (sym there) (small_there (h.other e.env) (all_known t e.env) e.nest e.item h.small))
+
+    -- the first entry left is small where it is so far
+    pub small_first : (e : Entry) (rest : List Entry) → end.left ≡ e ∷ rest → IsSmallSoFar q.given_values s end e → AllByRecursion (λ left. IsLeftSmall left.item) (left_at u w e)
+    small_first e rest left = small_one e (subst (AllByRecursion (λ e. (o : Alike) → SameAs o e)) left (all_swap SameAs end.left each_alike)).0
+
     module _ (on : CanGoOn text q.given_values s t now q.items end) where
-      abbrev instance_own : (v : ℕ → Term) × (x : ℕ → When) × (shape_of q end s (all_known t) ≡ put_shape v x g)
-      instance_own = is.general s (all_known t) possible_own
-
-      abbrev x : ℕ → When
-      x = instance_own.1
-
-      abbrev y : ℕ → ℕ
-      y k = number_in (x k)
-
-      same_shape : shape_of q end (λ e. after instance_own.0 (u e)) (λ e. after_when x (w e)) ≡ shape_of q end s (all_known t)
-      same_shape = sym (shape_after text q s t ground end u w instance_own.0 x) ∙ ap (put_shape instance_own.0 x) (sym is.own) ∙ sym instance_own.2
-
-      times_are : AllByRecursion (λ e. TimesAre y (w e.env) (t e.env) e.item) end.left
-      times_are =
-          all_to (λ e. left_at (λ env. after instance_own.0 (u env)) (λ env. after_when x (w env)) e ≡ left_at s (all_known t) e) (λ e. TimesAre y (w e.env) (t e.env) e.item)
-          (λ e h. times_of (after instance_own.0 (u e.env)) (s e.env) (w e.env) x (t e.env) e.nest e.item h) end.left
-          (each_same (λ env. after instance_own.0 (u env)) s (λ env. after_when x (w env)) (all_known t) end.left (ap (λ h. h.rest) same_shape))
-
-      -- other values that are alike are possible too
-      abbrev Alike : Type 0
-      Alike = (other : Values) × AreAlike q.given_values s other end
-
-      possible_alike : (o : Alike) → IsPossible q s t end o.0 (all_known t)
-      possible_alike o = record {
-        values = sym o.1.start;
-        times = refl;
-        links = o.1.links;
-        when_links = known_whens;
-        past = all_to (λ e. put_item (s e.env) e.item ≡ put_item (o.0 e.env) e.item) (λ e. left_at o.0 (all_known t) e ≡ left_at s (all_known t) e)
-            (λ e h. left_is (o.0 e.env) (all_known t e.env) e.nest e.item ∙ ap (left_from (all_known t e.env) e.nest) (sym h) ∙ sym (left_is (s e.env) (all_known t e.env) e.nest e.item))
-            end.past o.1.past;
-      }
-
-      abbrev instance_alike : (o : Alike) → (v : ℕ → Term) × (x : ℕ → When) × (shape_of q end o.0 (all_known t) ≡ put_shape v x g)
-      instance_alike o = is.general o.0 (all_known t) (possible_alike o)
-
-      abbrev SameAs : Alike → Entry → Type 0
-      SameAs o e = left_at (λ env. after (instance_alike o).0 (u env)) (λ env. after_when (instance_alike o).1 (w env)) e ≡ left_at o.0 (all_known t) e
-
-      each_alike : (o : Alike) → AllByRecursion (SameAs o) end.left
-      each_alike o =
-          let r = instance_alike o in
-          each_same (λ env. after r.0 (u env)) o.0 (λ env. after_when r.1 (w env)) (all_known t) end.left
-          (ap (λ h. h.rest) (sym (shape_after text q s t ground end u w r.0 r.1) ∙ ap (put_shape r.0 r.1) (sym is.own) ∙ sym r.2))
-
-      small_one : (e : Entry) → ((o : Alike) → SameAs o e) → IsSmallSoFar q.given_values s end e → AllByRecursion (λ left. IsLeftSmall left.item) (left_at u w e)
-      small_one e same h =
-          let o : Alike = (h.other, h.alike) in
-          let r = instance_alike o in
-          let there : map (put_left r.0 r.1) (left_at u w e) ≡ left_at h.other (all_known t) e =
-          left_after r.0 (u e.env) r.1 (w e.env) e.nest e.item ∙ same o in
-          small_lefts r.0 r.1 (left_at u w e)
-          (subst (AllByRecursion (λ left. IsLeftSmall left.item)) (sym there) (small_there (h.other e.env) (all_known t e.env) e.nest e.item h.small))
-
       all_small : AllByRecursion (λ left. IsLeftSmall left.item) (flat_map (left_at u w) end.left)
       all_small = lefts_small u w end.left (all_two (λ e. (o : Alike) → SameAs o e) (IsSmallSoFar q.given_values s end) (λ e. AllByRecursion (λ left. IsLeftSmall left.item) (left_at u w e))
           small_one end.left (all_swap SameAs end.left each_alike) on.small)
@@ -405,11 +409,11 @@ module _ (text : Text) (level : List ℕ → ℕ) (trace : Trace) (q : Sequence)
       abbrev pub other : Times
       other env v = time_in can.times (w env v)
 
-      given_same : map (other 0) q.given_times ≡ map (t 0) q.given_times
+      pub given_same : map (other 0) q.given_times ≡ map (t 0) q.given_times
       given_same =
           sym (map_two (time_in can.times) (w 0) q.given_times) ∙ ap (map (time_in can.times)) is.possible.times ∙ map_two (time_in can.times) (all_known t 0) q.given_times
 
-      past_moved : AllByRecursion (SameEntry s s t other) end.past
+      pub past_moved : AllByRecursion (SameEntry s s t other) end.past
       past_moved = all_to (λ e. left_at u w e ≡ left_at s (all_known t) e) (SameEntry s s t other)
           (λ e h. past_same can.times (u e.env) (s e.env) (w e.env) (t e.env) e.nest e.item h) end.past is.possible.past
 
@@ -462,20 +466,23 @@ module _ (text : Text) (level : List ℕ → ℕ) (trace : Trace) (q : Sequence)
               subst (λ b. AreInOrder text other b rest) (end_of_step text u w other can.times now end.before next.env next.item step) h.1,
             )
 
+        pub plan_moved : CanGoOn text q.given_values s other now q.items end
+        plan_moved = record {
+          next = next;
+          rest = rest;
+          is_next = is_next;
+          step = step;
+          ahead = ahead;
+          in_order = subst (AreInOrder text other end.before) (sym is_next) in_order;
+          limits = limits_hold;
+          small = small;
+        }
+
         pub has_plan : (z : Times) × (map (z 0) q.given_times ≡ map (t 0) q.given_times) × Walk text level trace q.given_values s z now end (start text since q.items)
             × CanGoOn text q.given_values s z now q.items end
         has_plan = (
           other,
           given_same,
           walk_moved,
-          record {
-            next = next;
-            rest = rest;
-            is_next = is_next;
-            step = step;
-            ahead = ahead;
-            in_order = subst (AreInOrder text other end.before) (sym is_next) in_order;
-            limits = limits_hold;
-            small = small;
-          },
+          plan_moved,
         )

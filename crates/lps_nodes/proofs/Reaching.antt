@@ -56,7 +56,7 @@ module _ (text : Text) (seq : Sequence) (s : Values) (t : Times) (ground : AreAl
       left_after r (s o.env) z (all_known t o.env) o.nest o.item ∙ ap (λ f. left_of f (all_known t o.env) o.nest o.item) (same_ground text seq s t ground r o.env)
 
   module _ (level : List ℕ → ℕ) (trace : Trace) where
-    step_pass : (place : Place) (o : Entry) (rest : List Entry) → place.left ≡ o ∷ rest → AllByRecursion (HasSameValues s) place.links → AllByRecursion (HasSameTimes t) place.links →
+    pub step_pass : (place : Place) (o : Entry) (rest : List Entry) → place.left ≡ o ∷ rest → AllByRecursion (HasSameValues s) place.links → AllByRecursion (HasSameTimes t) place.links →
         (g : Shape) → IsGeneral seq s t place g → (h : Shape) × PassesTo (left_at s (all_known t) o) g h
     step_pass place o rest left vals whens g is =
         let r = is.general s (all_known t) (own_possible place vals whens) in
@@ -64,7 +64,7 @@ module _ (text : Text) (seq : Sequence) (s : Values) (t : Times) (ground : AreAl
         (ap (λ h. h.rest) is.own ∙ ap (flat_map (left_at is.values is.whens)) left) (fixed o) r.0 r.1 (shape_of seq (passed t place o rest) s (all_known t))
         (sym r.2 ∙ shape_split text seq s t ground trace place o rest left s (all_known t))
 
-    step_unfold : (place : Place) (o : Entry) (rest : List Entry) (left : place.left ≡ o ∷ rest) (a : Atom) (from to : TimeVar) (item : o.item ≡ i.Span a from to) (number : ℕ) (clause : MacroClause) →
+    pub step_unfold : (place : Place) (o : Entry) (rest : List Entry) (left : place.left ≡ o ∷ rest) (a : Atom) (from to : TimeVar) (item : o.item ≡ i.Span a from to) (number : ℕ) (clause : MacroClause) →
         AllByRecursion (HasSameValues s) place.links → AllByRecursion (HasSameTimes t) place.links → HasSameValues s (link_at place o a from.0 to.0 number clause) →
         HasSameTimes t (link_at place o a from.0 to.0 number clause) → (g : Shape) → IsGeneral seq s t place g → (h : Shape) × UnfoldsTo text clause g h
     step_unfold place o rest left a from to item number clause vals whens same_vals same_times g is =

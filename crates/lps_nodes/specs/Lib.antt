@@ -4,4 +4,6 @@ pub mod Nodes
 pub mod Conditions
 pub mod Integers
 pub mod Alone
+pub mod NextSteps
+pub mod Plans
 pub mod Laws

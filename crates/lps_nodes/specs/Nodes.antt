@@ -18,11 +18,15 @@ use Rattle.lps_model.specs.Rules.{Rule, rules}
 use Rattle.lps_meaning.specs.Sequences.{Place, Values, Times, Walk, start, rank, done, is_call}
 use Rattle.lps_nodes.specs.Shapes.{Sequence, alternative_of, antecedent_of, Shape, IsGeneral, IsCanonical, untested}
 
+-- what is left in a node
+abbrev pub left_in : Node → Shape
+left_in node = record { carry = node.carry; rest = node.rest; limits = node.limits }
+
 -- what is left at a place, with canonical numbers and without the constraints whose times are all known
 pub record IsResidual (q : Sequence) (s : Values) (t : Times) (place : Place) (node : Node) : Type 0 where
   pub whole : Shape
   pub general : IsGeneral q s t place whole
-  pub tested : record { carry = node.carry; rest = node.rest; limits = node.limits } ≡ untested whole
+  pub tested : left_in node ≡ untested whole
   pub canonical : IsCanonical (untested whole)
   pub of_rank : node.rank ≡ rank place
   pub of_done : node.done ≡ done place
