@@ -1,0 +1,5 @@
+pub mod Bounds
+pub mod Conditions
+pub mod Ends
+pub mod Matrices
+pub mod Windows
