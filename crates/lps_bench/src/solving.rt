@@ -22,7 +22,7 @@ pub fn answers_of_last(alloc: Global, bytes: &[u8]) -> Result<Option<Vec<Values>
     let Some(text) = accepted_text(alloc, bytes)? else {
         return Ok(None);
     };
-    let program = Program::new(alloc, text)?;
+    let program = Box::new(alloc, Program::new(alloc, text)?)?;
     let facts = facts_of(alloc, program.text().text())?;
     answers_in(alloc, &program, &facts)
 }

@@ -96,27 +96,38 @@ fn last_line(alloc: Global) -> Result<Vec<u8>, AllocError>
 
 impl Running {
     ghost use Rattle.lps_batches.specs.LinesAhead.{IsLine};
+    ghost use Rattle.lps_cycle.specs.Engine.{Stands};
+    ghost use Rattle.lps_model.specs.Run.{first_trace};
     ghost use Rattle.lps_run.specs.Judged.{WasRead, ended};
     ghost use Rattle.lps_run.specs.Running.{Due, Standing, Reading, Finished};
 
-    /// Prints the block of cycle 0.
-    fn begin<D: Desk>(alloc: Global, text: Accepted, desk: &mut D) -> Result<Running, Stop>
+    /// The run of no cycles, and nothing of a stream.
+    fn new(alloc: Global, text: Accepted) -> Result<Box<Running>, AllocError>
         requires { rules text ≡ [] }
-        ensures text { IfOk result (λ running. running.engine.text ≡ text) }
-        ensures empty { IfOk result (λ running. running.reader ≡ record { left = []; lines = 0; bad = None }) }
+        ensures text { IfOk result (λ running. running.value.engine.text ≡ text) }
+        ensures empty { IfOk result (λ running. running.value.reader ≡ record { left = []; lines = 0; bad = None }) }
+        ensures stands { IfOk result (λ running. Stands running.value.engine [] (first_trace running.value.engine.facts)) }
+    {
+        let engine = Engine::start(alloc, text)?;
+        let running = Running {
+            engine,
+            reader: BatchReader::new(alloc),
+        };
+        Ok(Box::new(alloc, running)?)
+    }
+
+    /// Prints the block of cycle 0.
+    fn begin<D: Desk>(&self, alloc: Global, desk: &mut D) -> Result<(), Stop>
+        requires empty { self.now.reader ≡ record { left = []; lines = 0; bad = None } }
+        requires stands { Stands self.now.engine [] (first_trace self.now.engine.facts) }
         ensures told { (stream start : List ℕ) (source : Option Stream) → D.printed desk.old ≡ Some start →
-            MatchResult result (λ running. Standing running stream (ended stream) start (D.printed desk.new))
-            (λ stop. Stopped text stream start (D.printed desk.new) source stop) }
+            MatchResult result (λ _. Standing self.now stream (ended stream) start (D.printed desk.new))
+            (λ stop. Stopped self.now.engine.text stream start (D.printed desk.new) source stop) }
         ensures kind { IfErr result StopsAtLine }
         ensures counted { Counted result 0 0 (D.print_faults desk.old) (D.print_faults desk.new) }
     {
-        let engine = Engine::start(alloc, text)?;
-        let block = block_of(alloc, 0, &Cycle::none(alloc), engine.facts())?;
-        print(desk, block.as_slice())?;
-        Ok(Running {
-            engine,
-            reader: BatchReader::new(alloc),
-        })
+        let block = block_of(alloc, 0, &Cycle::none(alloc), self.engine.facts())?;
+        print(desk, block.as_slice())
     }
 
     /// Makes the cycle of a batch whose line was taken, if the batch is that of the next cycle.
@@ -255,6 +266,27 @@ impl Running {
         }
         Err(Stop::StreamLimit)
     }
+
+    /// Prints the report over a stream: each block as soon as its cycle is made.
+    fn report<E: Source, D: Desk>(
+        &mut self,
+        alloc: Global,
+        events: &mut E,
+        desk: &mut D,
+    ) -> Result<(), Stop>
+        requires empty { self.old.reader ≡ record { left = []; lines = 0; bad = None } }
+        requires stands { Stands self.old.engine [] (first_trace self.old.engine.facts) }
+        ensures limit { (before : Stream) → E.stream events.old ≡ Some before → KeepsLimit before result (E.stream events.new) }
+        ensures told { (before : Stream) (start : List ℕ) → E.stream events.old ≡ Some before → D.printed desk.old ≡ Some start →
+            MatchResult result (λ _. Reported self.old.engine.text before.left start (D.printed desk.new) (E.stream events.new))
+            (λ stop. Stopped self.old.engine.text before.left start (D.printed desk.new) (E.stream events.new) stop) }
+        ensures counted { Counted result (E.faults events.old) (E.faults events.new) (D.print_faults desk.old) (D.print_faults desk.new) }
+    {
+        self.begin(alloc, desk)?;
+        self.take_stream(alloc, events, desk)?;
+        let last = last_line(alloc)?;
+        print(desk, last.as_slice())
+    }
 }
 
 /// Runs a text without rules over a stream of batches, and prints the report: each block as soon as its cycle is made.
@@ -271,8 +303,6 @@ pub fn run<E: Source, D: Desk>(
         (λ stop. Stopped text before.left start (D.printed desk.new) (E.stream events.new) stop) }
     ensures counted { Counted result (E.faults events.old) (E.faults events.new) (D.print_faults desk.old) (D.print_faults desk.new) }
 {
-    let mut running = Running::begin(alloc, text, desk)?;
-    running.take_stream(alloc, events, desk)?;
-    let last = last_line(alloc)?;
-    print(desk, last.as_slice())
+    let mut running = Running::new(alloc, text)?;
+    running.report(alloc, events, desk)
 }
