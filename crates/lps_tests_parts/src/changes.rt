@@ -1,7 +1,7 @@
 //! Sets of facts that change and are taken back.
-use crate::written::{atom_of, atoms_of, shown};
 use lps_facts::Facts;
 use lps_terms::Effects;
+use lps_tests_written::{atom_of, atoms_of, shown};
 use std::alloc::Global;
 use std::process::Abort;
 use std::test::Fail;

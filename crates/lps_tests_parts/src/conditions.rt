@@ -1,6 +1,6 @@
 //! The values of expressions, and whether built-ins are true.
-use crate::written::conditions_of;
 use lps_terms::{Built, Cond};
+use lps_tests_written::conditions_of;
 use lps_values::{holds, value};
 use std::alloc::Global;
 use std::process::Abort;

@@ -1,16 +1,16 @@
-//! Tests of the parts of a run: terms and names, sets of facts, unification, values, denials and effects, and an outside in
-//! memory.
+//! Tests of the parts that a run is made of: terms and names, sets of facts, unification, values, the bytes of a report, and an
+//! outside in memory.
 //!
 //! It stands on these parts and on the reader of texts, by which terms, atoms and conditions are written as texts, and knows
-//! nothing of whole runs. It carries no theorem: each table has texts, and what a part makes of them, worked out by hand.
+//! nothing of cycles or of whole runs. It carries no theorem: each table has texts, and what a part makes of them, worked out by hand.
 #![tactic(auto)]
 
+#[cfg(test)]
+mod blocks;
 #[cfg(test)]
 mod changes;
 #[cfg(test)]
 mod conditions;
-#[cfg(test)]
-mod denials;
 #[cfg(test)]
 mod names;
 #[cfg(test)]
@@ -20,10 +20,6 @@ mod outside;
 #[cfg(test)]
 mod patterns;
 #[cfg(test)]
-mod program;
-#[cfg(test)]
 mod towers;
 #[cfg(test)]
 mod unifiers;
-#[cfg(test)]
-mod written;

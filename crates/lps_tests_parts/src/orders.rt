@@ -1,6 +1,6 @@
 //! The order of terms and atoms, their sizes, and collections that are kept in order.
-use crate::written::{atom_of, atoms_of, shown, terms_of};
 use lps_terms::{atom_symbols, copy_atom, copy_term, order, order_atoms};
+use lps_tests_written::{atom_of, atoms_of, shown, terms_of};
 use std::collections::{BTreeMap, BTreeSet};
 use std::test::Fail;
 

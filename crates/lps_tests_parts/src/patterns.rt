@@ -1,6 +1,6 @@
 //! Facts that are instances of a pattern.
-use crate::written::{atom_of, atoms_of, shown};
 use lps_facts::Facts;
+use lps_tests_written::{atom_of, atoms_of, shown};
 use std::alloc::Global;
 use std::process::Abort;
 use std::test::Fail;

@@ -1,6 +1,6 @@
 //! Most general unifiers of terms.
-use crate::written::terms_of;
 use lps_terms::{Term, print_term};
+use lps_tests_written::terms_of;
 use lps_unify::{Bindings, canonical};
 use std::alloc::Global;
 use std::process::Abort;

@@ -1,7 +1,7 @@
 //! The effects of events, and the denials that they violate.
-use crate::program::{effects_in, initial_facts, program_of, tried_in};
-use crate::written::{atoms_of, shown};
+use crate::program::{effects_in, initial_facts, program_of, theory_of, tried_in};
 use lps_precond::Denials;
+use lps_tests_written::{atoms_of, shown};
 use std::alloc::Global;
 use std::process::Abort;
 use std::test::Fail;
@@ -52,13 +52,12 @@ fn check_tried(
     number: Option<u32>,
     left: &str,
 ) -> Result<(), Fail> {
-    let program = program_of(alloc, text)?;
-    let mut facts = initial_facts(alloc, program.text().text())?;
+    let theory = theory_of(alloc, text)?;
+    let facts = initial_facts(alloc, theory.text().text())?.sorted(alloc)?;
     let atoms = atoms_of(alloc, events)?;
-    let found = tried_in(alloc, &program, &mut facts, atoms.as_slice())?;
+    let (found, next) = tried_in(alloc, &theory, facts.as_slice(), atoms.as_slice())?;
     assert_eq!(rt; found, number, "{events}");
-    let sorted = facts.sorted(alloc)?;
-    let text = shown(alloc, sorted.as_slice())?;
+    let text = shown(alloc, next.as_slice())?;
     assert_eq!(rt; text.as_slice(), left.as_bytes(), "{events}");
     Ok(())
 }
@@ -93,9 +92,9 @@ fn check_effects(
     terminated: &str,
 ) -> Result<(), Fail> {
     let program = program_of(alloc, LAMPS)?;
-    let mut facts = initial_facts(alloc, program.text().text())?;
+    let facts = initial_facts(alloc, program.text().text())?;
     let atoms = atoms_of(alloc, events)?;
-    let found = effects_in(alloc, &program, &mut facts, atoms.as_slice())?;
+    let found = effects_in(alloc, &program, &facts, atoms.as_slice())?;
     let text = shown(alloc, found.initiated.as_slice())?;
     assert_eq!(rt; text.as_slice(), initiated.as_bytes(), "{events}");
     let text = shown(alloc, found.terminated.as_slice())?;
