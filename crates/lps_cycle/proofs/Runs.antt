@@ -1,6 +1,5 @@
 -- A text without rules has no goals, so a run of it goes on by any batch whose events are judged.
-use Rattle.std.proofs.Common.{◌≡◌, ℕ, zero, suc, ◌≤◌, ◌<◌, List, [], ◌∷◌, ◌++◌, map, length, refl, sym, ap, subst, ◌∙◌, append_assoc, Some}
-use Rattle.std.specs.Prelude.{Contains}
+use Rattle.std.proofs.Common.{◌≡◌, ℕ, zero, suc, ◌≤◌, ◌<◌, List, [], ◌∷◌, ◌++◌, length, refl, sym, ap, subst, ◌∙◌, append_assoc, Some}
 use Rattle.std.specs.List.{AllByRecursion}
 use Rattle.std.specs.List.Sorted.{IsStrictlySortedBy}
 use Rattle.std.proofs.lemmas.List.{append-nil, map-append}
@@ -11,13 +10,10 @@ use Rattle.lps_model.specs.declared.cycle.Cycle.{Cycle}
 use Rattle.lps_model.specs.declared.trace.Trace.{Trace}
 use Rattle.lps_model.specs.declared.verdict.Verdict.{Verdict}
 use Rattle.lps_model.specs.Run.{AreInitial, first_trace}
-use Rattle.lps_model.specs.Trace.{admitted, then_cycle}
+use Rattle.lps_model.specs.Trace.{then_cycle}
 use Rattle.lps_model.proofs.Elements.{nothing_contained}
-use Rattle.lps_model.specs.Clauses.{clauses}
-use Rattle.lps_derivation.specs.Levels.{AreLevels}
 use Rattle.lps_meaning.specs.declared.goal.GoalKey.{GoalKey}
 use Rattle.lps_meaning.specs.Cycles.{AreGoals, AreJudged, IsLegal, IsOutside, key_cmp}
-use Rattle.lps_meaning.specs.Goals.{IsGoal}
 use Rattle.lps_meaning.specs.Plain.{IsPlain, ArePlain, IsPlainRun, last}
 use Rattle.lps_model.specs.Rules.{Rule, rules, numbered}
 use Rattle.lps_meaning.proofs.Persistence.{start_law, turn}

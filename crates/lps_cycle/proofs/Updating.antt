@@ -1,31 +1,27 @@
 -- One cycle: the events that are judged, and the facts after those that are admitted.
-use Rattle.std.proofs.Common.{ℕ, suc, ◌≡◌, ◌≤◌, ◌<◌, ◌+◌, Bool, true, false, List, [], ◌∷◌, ◌++◌, length, drop, refl, sym, ap, subst, ◌∙◌, inl, inr, Option, Some, None, arith, append_assoc}
-use Rattle.std.specs.Prelude.{Contains, IsTrue}
-use Rattle.std.specs.List.{AllByRecursion, flat_map, list_all}
+use Rattle.std.proofs.Common.{ℕ, suc, ◌≡◌, ◌≤◌, ◌<◌, ◌+◌, List, [], ◌∷◌, ◌++◌, length, refl, sym, ap, subst, ◌∙◌, inl, inr, Option, Some, None, arith, append_assoc}
+use Rattle.std.specs.Prelude.{Contains}
+use Rattle.std.specs.List.{AllByRecursion}
 use Rattle.std.proofs.lemmas.List.{append-nil, length-append, map-append}
 use Rattle.lps_terms.specs.declared.atom.Atom.{Atom}
-use Rattle.lps_terms.specs.declared.kind.Kind.TheVariants as k
 use Rattle.lps_terms.specs.declared.text.Text.{Text}
 use Rattle.lps_model.specs.declared.cycle.Cycle.{Cycle}
 use Rattle.lps_model.specs.declared.trace.Trace.{Trace}
 use Rattle.lps_model.specs.declared.verdict.Verdict.{Verdict}
 use Rattle.lps_model.specs.declared.verdict.Verdict.TheVariants.{Admitted, Rejected}
 use Rattle.lps_model.specs.Order.{happens}
-use Rattle.lps_model.specs.Run.{IsExternal}
 use Rattle.lps_model.specs.Trace.{admitted, happens_in, if_admitted, then_cycle}
 use Rattle.lps_model.specs.Clauses.{clauses}
 use Rattle.lps_model.proofs.Elements.{first_or_later, nothing_contained}
-use Rattle.lps_derivation.specs.Ground.{is_ground}
 use Rattle.lps_derivation.specs.Levels.{AreLevels}
-use Rattle.lps_meaning.specs.Cycles.{AreJudged, IsOutside, IsVerdict}
+use Rattle.lps_meaning.specs.Cycles.{AreJudged, IsOutside}
 use Rattle.lps_meaning.specs.Reports.{IsState}
-use Rattle.lps_model.specs.Rules.{kind_of, rules}
 use Rattle.lps_causal.specs.Names.{AreEvents, IsEvent}
 use Rattle.lps_causal.specs.Next.{IsUpdate}
 use Rattle.lps_precond.specs.Judged.{IsJudged}
 use Rattle.lps_trial.specs.Trial.{InState}
 use Rattle.lps_cycle.specs.Admission.{AreAdmitted, IsVerdictIn, MayCome}
-use Rattle.lps_cycle.specs.Engine.{EngineState, Stands, depth}
+use Rattle.lps_cycle.specs.Engine.{EngineState, Stands}
 use Rattle.lps_cycle.proofs.Runs.{plain, run_more}
 
 -- ---- which atoms are events

@@ -9,7 +9,6 @@ use Rattle.lps_model.specs.Trace.{admitted}
 use Rattle.lps_derivation.specs.Ground.{is_ground}
 use Rattle.lps_meaning.specs.Cycles.{AreJudged, IsVerdict}
 use Rattle.lps_trial.specs.Trial.{InState}
-use Rattle.lps_cycle.specs.Engine.{depth}
 
 -- a batch may bring the event: it is ground, and declared as an event with its number of arguments
 abbrev pub MayCome : Text → Atom → Type 0

@@ -1,131 +1,189 @@
--- Each side of a denial of an accepted text can be asked for: the first one at once, and the second one where the variables of
--- the first have ground values.
-use Rattle.std.proofs.Common.{ℕ, zero, suc, Bool, true, false, ◌≡◌, List, [], ◌∷◌, ◌++◌, take, drop, refl}
-use Rattle.std.specs.Prelude.{IsTrue, Option, Some, None, if◌then◌else◌}
+-- Each stage of a denial of an accepted text can be asked: what is to happen at once, and each side of the cut where the variables
+-- before it have values.
+use Rattle.std.proofs.Common.{ℕ, zero, suc, true, ◌≡◌, List, [], ◌∷◌, take, drop, length, refl, ap, ◌∙◌, subst, arith, inl, inr}
+use Rattle.std.specs.Prelude.{false, Contains, Option, Some, None, if◌then◌else◌}
 use Rattle.std.specs.List.{AllByRecursion, flat_map, list_all}
-use Rattle.std.specs.Option.{option_or}
+use Rattle.std.proofs.lemmas.List.{take_all}
+use Rattle.lps_terms.specs.declared.cond.Cond.{Cond}
+use Rattle.lps_terms.specs.declared.cond.Cond.TheVariants as c
+use Rattle.lps_terms.specs.declared.decl.Decl.{Decl}
 use Rattle.lps_terms.specs.declared.item.Item.{Item}
 use Rattle.lps_terms.specs.declared.item.Item.TheVariants as i
+use Rattle.lps_terms.specs.declared.kind.Kind.{Kind}
+use Rattle.lps_terms.specs.declared.kind.Kind.TheVariants as k
+use Rattle.lps_terms.specs.declared.term.Term.{Term}
 use Rattle.lps_terms.specs.declared.text.Text.{Text}
+use Rattle.lps_model.specs.Declarations.{decl_among, kind_in}
 use Rattle.lps_model.specs.Formed.{is_no_constraint}
-use Rattle.lps_model.specs.Known.{Scope, atom_needs, built_needs, conds_unknown, is_known, items_unknown, known_after, learnt, lit_needs, scope_at, steps_after, unknown_among, with_var}
+use Rattle.lps_model.specs.Known.{Scope, atom_needs, built_needs, cond_needs, conds_unknown, declared_needs, items_unknown, kind_needs, learnt, lit_needs, scope_at, steps_after, unknown_among}
+use Rattle.lps_model.specs.Order.{happens}
 use Rattle.lps_model.specs.Program.{declarations}
+use Rattle.lps_model.specs.Rules.{kind_of}
+use Rattle.lps_model.proofs.Elements.{first_is_contained, first_or_later, later_is_contained, nothing_contained}
 use Rattle.lps_model.specs.VariableLists.{atom_vars, built_vars, cond_vars}
-use Rattle.lps_derivation.specs.Ground.{is_ground}
-use Rattle.lps_unify.specs.Bindings.{TrailedBindings, standing}
-use Rattle.lps_solve.specs.Moded.{AreModed}
-use Rattle.lps_solve.proofs.Vars.{all_append, all_first, all_second}
-use Rattle.lps_precond.specs.Cut.{back_of, conds_of, count_early, front_of, second_in}
-use Rattle.lps_precond.proofs.Stated.{IsDenial}
+use Rattle.lps_solve.proofs.Moding.{neither_is}
+use Rattle.lps_solve.proofs.Sets.{all_learnt}
+use Rattle.lps_solve.proofs.Vars.{all_first, all_second, all_weaker}
+use Rattle.lps_precond.specs.Cut.{back_of, conds_of, count_early, events_of, front_of, second_in}
+use Rattle.lps_precond.specs.Stages.{AreAsked, vars_of, vars_with}
+use Rattle.lps_precond.proofs.Known.{AreIn, IsIn, each_in, learnt_both, learnt_keeps, none_both, then_more, with_known}
+use Rattle.lps_precond.proofs.Stated.{HasKinds, IsDenial}
+use Rattle.lps_precond.proofs.Variables.{all_as_written, without}
 
-both_none : {X : Type 0} (one other : Option X) → option_or one other ≡ None → (one ≡ None) × (other ≡ None)
-both_none None other e = (refl, e)
-both_none (Some x) other e = absurd (cc)
+-- ---- what is to happen
 
-none_both : {X : Type 0} (one other : Option X) → one ≡ None → other ≡ None → option_or one other ≡ None
-none_both None other e f = f
-none_both (Some x) other e f = absurd (cc)
+-- nothing has to be known at an event or an action that is seen
+no_needs : (found : Option Decl) → happens (kind_in found) ≡ true → (args : List Term) → declared_needs false found args ≡ []
+no_needs None h args = refl
+no_needs (Some decl) h args = by decl.kind h
+  where
+    by : (kind : Kind) → happens (Some kind) ≡ true → kind_needs false kind decl.modes args ≡ []
+    by k.Event h' = refl
+    by k.Action h' = refl
+    by k.Fluent h' = refl
+    by k.Timeless h' = absurd (cc)
+    by k.Derived h' = absurd (cc)
+    by k.Macro h' = absurd (cc)
+
+-- a positive literal of what may happen
+abbrev pub IsEventCond : Text → Cond → Type 0
+IsEventCond text (c.Lit l) = (l.negated ≡ false) × (happens (kind_of text l.atom.name) ≡ true)
+IsEventCond text (c.Built built) = ⊥
+
+-- each of the conditions is
+abbrev pub AreEventConds : Text → List Cond → Type 0
+AreEventConds text conds = (k : Cond) → Contains conds k → IsEventCond text k
+
+events_are : (text : Text) (items : List Item) → AllByRecursion (HasKinds text) items → AreEventConds text (events_of items)
+events_are text [] kinds k at = absurd (nothing_contained k at)
+events_are text (i.Span a from to ∷ items) kinds k at =
+    elim (first_or_later (c.Lit (record { negated = false; atom = a })) (events_of items) k at) [
+      | inl same ↦ subst (IsEventCond text) same (refl, kinds.0)
+      | inr later ↦ events_are text items kinds.1 k later
+    ]
+events_are text (i.At l time ∷ items) kinds k at = events_are text items kinds.1 k at
+events_are text (i.Bare l ∷ items) kinds k at = events_are text items kinds.1 k at
+events_are text (i.Built built ∷ items) kinds k at = events_are text items kinds.1 k at
+events_are text (i.Con con ∷ items) kinds k at = events_are text items kinds.1 k at
+
+module _ (text : Text) (scope : Scope) (declared : scope.decls ≡ declarations text) (seen : scope.is_planned ≡ false) where
+  event_needs : (known : List ℕ) (k : Cond) → IsEventCond text k → unknown_among scope.names known (cond_needs scope known k) ≡ None
+  event_needs known (c.Lit l) is =
+      let needs : atom_needs scope l.atom ≡ [] =
+      (λ j. declared_needs (seen j) (decl_among (declared j) l.atom.name) l.atom.args) ∙ no_needs (decl_among (declarations text) l.atom.name) is.1 l.atom.args in
+      ap (unknown_among scope.names known) (ap (λ n. if n then atom_vars l.atom else atom_needs scope l.atom) is.0 ∙ needs)
+  event_needs known (c.Built built) is = absurd is
+
+  pub events_moded : (known : List ℕ) (conds : List Cond) → AreEventConds text conds → conds_unknown scope [] known conds ≡ None
+  events_moded known [] are = refl
+  events_moded known (k ∷ conds) are =
+      none_both (unknown_among scope.names known (cond_needs scope known k)) _ (event_needs known k (are k (first_is_contained k conds)))
+      (events_moded (learnt known (cond_vars k)) conds (λ other at. are other (later_is_contained k conds other at)))
 
 -- ---- from the left
 
+all_taken : (items : List Item) → take (length items) items ≡ items
+all_taken items = take_all (length items) items (omega arith)
+
+-- variables that are known stay known with what is learnt
+still : (known vars these : List ℕ) → AreIn known these → AreIn (learnt known vars) these
+still known vars these h = all_weaker (IsIn known) (IsIn (learnt known vars)) (learnt_keeps known vars) these h
+
 module _ (scope : Scope) where
-  moded_all : (known : List ℕ) (items : List Item) → list_all is_no_constraint items ≡ true → items_unknown scope [] known items ≡ None → conds_unknown scope [] known (conds_of items) ≡ None
-  moded_all known [] plain h = refl
-  moded_all known (i.At l time ∷ items) plain h =
-      let both = both_none (unknown_among scope.names known (lit_needs scope l)) (items_unknown scope [] (learnt known (atom_vars l.atom)) items) h in
-      none_both (unknown_among scope.names known (lit_needs scope l)) _ both.0 (moded_all (learnt known (atom_vars l.atom)) items plain both.1)
-  moded_all known (i.Bare l ∷ items) plain h =
-      let both = both_none (unknown_among scope.names known (lit_needs scope l)) (items_unknown scope [] (learnt known (atom_vars l.atom)) items) h in
-      none_both (unknown_among scope.names known (lit_needs scope l)) _ both.0 (moded_all (learnt known (atom_vars l.atom)) items plain both.1)
-  moded_all known (i.Built built ∷ items) plain h =
-      let both = both_none (unknown_among scope.names known (built_needs known built)) (items_unknown scope [] (learnt known (built_vars built)) items) h in
-      none_both (unknown_among scope.names known (built_needs known built)) _ both.0 (moded_all (learnt known (built_vars built)) items plain both.1)
-  moded_all known (i.Span a from to ∷ items) plain h =
-      let both = both_none (unknown_among scope.names known (atom_needs scope a)) (items_unknown scope [] (learnt known (atom_vars a)) items) h in
-      none_both (unknown_among scope.names known (atom_needs scope a)) _ both.0 (moded_all (learnt known (atom_vars a)) items plain both.1)
-  moded_all known (i.Con con ∷ items) plain h = absurd (cc)
+  -- The conditions before the cut, where `more` has what is known so far, and the variables of what is to happen.
+  front_moded : (n : ℕ) (less more : List ℕ) (items : List Item) → AreIn more less → AreIn more (flat_map cond_vars (events_of items)) → list_all is_no_constraint items ≡ true →
+      items_unknown scope [] less items ≡ None → conds_unknown scope [] more (conds_of (take n items)) ≡ None
+  front_moded zero less more [] within events plain h = refl
+  front_moded zero less more (item ∷ items) within events plain h = refl
+  front_moded (suc n) less more [] within events plain h = refl
+  front_moded (suc n) less more (i.At l time ∷ items) within events plain h =
+      let vars = atom_vars l.atom in
+      then_more scope less more within (c.Lit l) (conds_of (take n items)) (items_unknown scope [] (learnt less vars) items) h
+      (front_moded n (learnt less vars) (learnt more vars) items (learnt_both less more vars within) (still more vars (flat_map cond_vars (events_of items)) events) plain)
+  front_moded (suc n) less more (i.Bare l ∷ items) within events plain h =
+      let vars = atom_vars l.atom in
+      then_more scope less more within (c.Lit l) (conds_of (take n items)) (items_unknown scope [] (learnt less vars) items) h
+      (front_moded n (learnt less vars) (learnt more vars) items (learnt_both less more vars within) (still more vars (flat_map cond_vars (events_of items)) events) plain)
+  front_moded (suc n) less more (i.Built built ∷ items) within events plain h =
+      let vars = built_vars built in
+      then_more scope less more within (c.Built built) (conds_of (take n items)) (items_unknown scope [] (learnt less vars) items) h
+      (front_moded n (learnt less vars) (learnt more vars) items (learnt_both less more vars within) (still more vars (flat_map cond_vars (events_of items)) events) plain)
+  front_moded (suc n) less more (i.Span a from to ∷ items) within events plain h =
+      let both = neither_is (unknown_among scope.names less (atom_needs scope a)) (items_unknown scope [] (learnt less (atom_vars a)) items) h in
+      let here = all_first (IsIn more) (atom_vars a) (flat_map cond_vars (events_of items)) events in
+      front_moded n (learnt less (atom_vars a)) more items (all_learnt (IsIn more) less (atom_vars a) within here)
+      (all_second (IsIn more) (atom_vars a) (flat_map cond_vars (events_of items)) events) plain both.1
+  front_moded (suc n) less more (i.Con con ∷ items) within events plain h = absurd (cc)
 
-  moded_front : (n : ℕ) (known : List ℕ) (items : List Item) → list_all is_no_constraint items ≡ true → items_unknown scope [] known items ≡ None →
-      conds_unknown scope [] known (conds_of (take n items)) ≡ None
-  moded_front zero known [] plain h = refl
-  moded_front zero known (item ∷ items) plain h = refl
-  moded_front (suc n) known [] plain h = refl
-  moded_front (suc n) known (i.At l time ∷ items) plain h =
-      let both = both_none (unknown_among scope.names known (lit_needs scope l)) (items_unknown scope [] (learnt known (atom_vars l.atom)) items) h in
-      none_both (unknown_among scope.names known (lit_needs scope l)) _ both.0 (moded_front n (learnt known (atom_vars l.atom)) items plain both.1)
-  moded_front (suc n) known (i.Bare l ∷ items) plain h =
-      let both = both_none (unknown_among scope.names known (lit_needs scope l)) (items_unknown scope [] (learnt known (atom_vars l.atom)) items) h in
-      none_both (unknown_among scope.names known (lit_needs scope l)) _ both.0 (moded_front n (learnt known (atom_vars l.atom)) items plain both.1)
-  moded_front (suc n) known (i.Built built ∷ items) plain h =
-      let both = both_none (unknown_among scope.names known (built_needs known built)) (items_unknown scope [] (learnt known (built_vars built)) items) h in
-      none_both (unknown_among scope.names known (built_needs known built)) _ both.0 (moded_front n (learnt known (built_vars built)) items plain both.1)
-  moded_front (suc n) known (i.Span a from to ∷ items) plain h =
-      let both = both_none (unknown_among scope.names known (atom_needs scope a)) (items_unknown scope [] (learnt known (atom_vars a)) items) h in
-      none_both (unknown_among scope.names known (atom_needs scope a)) _ both.0 (moded_front n (learnt known (atom_vars a)) items plain both.1)
-  moded_front (suc n) known (i.Con con ∷ items) plain h = absurd (cc)
+  -- The conditions from the cut on, where `more` has what is known so far and the variables before the cut. Nothing is to happen
+  -- there that has to be known.
+  back_moded : (n : ℕ) (less more : List ℕ) (items : List Item) → AreIn more less → AreIn more (flat_map cond_vars (events_of items)) → AreIn more (flat_map cond_vars (conds_of (take n items))) →
+      list_all is_no_constraint items ≡ true → items_unknown scope [] less items ≡ None → conds_unknown scope [] more (conds_of (drop n items)) ≡ None
+  back_moded zero less more [] within events front plain h = refl
+  back_moded zero less more (item ∷ items) within events front plain h =
+      subst (λ (all : List Item). conds_unknown scope [] more (conds_of all) ≡ None) (all_taken (item ∷ items)) (front_moded (length (item ∷ items)) less more (item ∷ items) within events plain h)
+  back_moded (suc n) less more [] within events front plain h = refl
+  back_moded (suc n) less more (i.At l time ∷ items) within events front plain h =
+      let both = neither_is (unknown_among scope.names less (lit_needs scope l)) (items_unknown scope [] (learnt less (atom_vars l.atom)) items) h in
+      back_moded n (learnt less (atom_vars l.atom)) more items (all_learnt (IsIn more) less (atom_vars l.atom) within (all_first (IsIn more) (atom_vars l.atom) (flat_map cond_vars (conds_of (take n items))) front)) events
+      (all_second (IsIn more) (atom_vars l.atom) (flat_map cond_vars (conds_of (take n items))) front) plain both.1
+  back_moded (suc n) less more (i.Bare l ∷ items) within events front plain h =
+      let both = neither_is (unknown_among scope.names less (lit_needs scope l)) (items_unknown scope [] (learnt less (atom_vars l.atom)) items) h in
+      back_moded n (learnt less (atom_vars l.atom)) more items (all_learnt (IsIn more) less (atom_vars l.atom) within (all_first (IsIn more) (atom_vars l.atom) (flat_map cond_vars (conds_of (take n items))) front)) events
+      (all_second (IsIn more) (atom_vars l.atom) (flat_map cond_vars (conds_of (take n items))) front) plain both.1
+  back_moded (suc n) less more (i.Built built ∷ items) within events front plain h =
+      let both = neither_is (unknown_among scope.names less (built_needs less built)) (items_unknown scope [] (learnt less (built_vars built)) items) h in
+      back_moded n (learnt less (built_vars built)) more items (all_learnt (IsIn more) less (built_vars built) within (all_first (IsIn more) (built_vars built) (flat_map cond_vars (conds_of (take n items))) front)) events
+      (all_second (IsIn more) (built_vars built) (flat_map cond_vars (conds_of (take n items))) front) plain both.1
+  back_moded (suc n) less more (i.Span a from to ∷ items) within events front plain h =
+      let both = neither_is (unknown_among scope.names less (atom_needs scope a)) (items_unknown scope [] (learnt less (atom_vars a)) items) h in
+      let here = all_first (IsIn more) (atom_vars a) (flat_map cond_vars (events_of items)) events in
+      back_moded n (learnt less (atom_vars a)) more items (all_learnt (IsIn more) less (atom_vars a) within here)
+      (all_second (IsIn more) (atom_vars a) (flat_map cond_vars (events_of items)) events) front plain both.1
+  back_moded (suc n) less more (i.Con con ∷ items) within events front plain h = absurd (cc)
 
-  moded_back : (n : ℕ) (known : List ℕ) (items : List Item) → list_all is_no_constraint items ≡ true → items_unknown scope [] known items ≡ None →
-      conds_unknown scope [] (known_after known (take n items)) (conds_of (drop n items)) ≡ None
-  moded_back zero known [] plain h = refl
-  moded_back zero known (item ∷ items) plain h = moded_all known (item ∷ items) plain h
-  moded_back (suc n) known [] plain h = refl
-  moded_back (suc n) known (i.At l time ∷ items) plain h =
-      moded_back n (learnt known (atom_vars l.atom)) items plain (both_none (unknown_among scope.names known (lit_needs scope l)) (items_unknown scope [] (learnt known (atom_vars l.atom)) items) h).1
-  moded_back (suc n) known (i.Bare l ∷ items) plain h =
-      moded_back n (learnt known (atom_vars l.atom)) items plain (both_none (unknown_among scope.names known (lit_needs scope l)) (items_unknown scope [] (learnt known (atom_vars l.atom)) items) h).1
-  moded_back (suc n) known (i.Built built ∷ items) plain h =
-      moded_back n (learnt known (built_vars built)) items plain (both_none (unknown_among scope.names known (built_needs known built)) (items_unknown scope [] (learnt known (built_vars built)) items) h).1
-  moded_back (suc n) known (i.Span a from to ∷ items) plain h =
-      moded_back n (learnt known (atom_vars a)) items plain (both_none (unknown_among scope.names known (atom_needs scope a)) (items_unknown scope [] (learnt known (atom_vars a)) items) h).1
-  moded_back (suc n) known (i.Con con ∷ items) plain h = absurd (cc)
+-- ---- the stages of a denial
 
--- ---- known variables
-
-module _ (P : ℕ → Type 0) where
-  all_with : (known : List ℕ) (v : ℕ) (is : Bool) → AllByRecursion P known → P v → AllByRecursion P (if is then known else (known ++ v ∷ []))
-  all_with known v true all one = all
-  all_with known v false all one = all_append P known (v ∷ []) all (one, tt)
-
-  all_learnt : (known vars : List ℕ) → AllByRecursion P known → AllByRecursion P vars → AllByRecursion P (learnt known vars)
-  all_learnt known [] all more = all
-  all_learnt known (v ∷ vars) all more = all_learnt (with_var known v) vars (all_with known v (is_known known v) all more.0) more.1
-
-  all_after : (known : List ℕ) (items : List Item) → AllByRecursion P known → AllByRecursion P (flat_map cond_vars (conds_of items)) → AllByRecursion P (known_after known items)
-  all_after known [] all more = all
-  all_after known (i.At l time ∷ items) all more =
-      all_after (learnt known (atom_vars l.atom)) items (all_learnt known (atom_vars l.atom) all (all_first P (atom_vars l.atom) (flat_map cond_vars (conds_of items)) more))
-      (all_second P (atom_vars l.atom) (flat_map cond_vars (conds_of items)) more)
-  all_after known (i.Bare l ∷ items) all more =
-      all_after (learnt known (atom_vars l.atom)) items (all_learnt known (atom_vars l.atom) all (all_first P (atom_vars l.atom) (flat_map cond_vars (conds_of items)) more))
-      (all_second P (atom_vars l.atom) (flat_map cond_vars (conds_of items)) more)
-  all_after known (i.Built built ∷ items) all more =
-      all_after (learnt known (built_vars built)) items (all_learnt known (built_vars built) all (all_first P (built_vars built) (flat_map cond_vars (conds_of items)) more))
-      (all_second P (built_vars built) (flat_map cond_vars (conds_of items)) more)
-  all_after known (i.Span a from to ∷ items) all more =
-      all_after (learnt known (atom_vars a)) items (all_learnt known (atom_vars a) all (all_first P (atom_vars a) (flat_map cond_vars (conds_of items)) more))
-      (all_second P (atom_vars a) (flat_map cond_vars (conds_of items)) more)
-  all_after known (i.Con con ∷ items) all more = all_after known items all more
-
-module _ (text : Text) (items : List Item) (denial : IsDenial text items) (b : TrailedBindings) where
-  abbrev scope_of : Scope
+module _ (text : Text) (items : List Item) (denial : IsDenial text items) where
+  abbrev pub scope_of : Scope
   scope_of = scope_at (declarations text) denial.statement (steps_after [] items) false
 
-  pub front_moded : AreModed text b (conds_of (front_of items))
-  front_moded = record {
+  abbrev happen : List Cond
+  happen = events_of items
+
+  abbrev front : List Cond
+  front = conds_of (front_of items)
+
+  pub happen_are : AreEventConds text happen
+  happen_are = events_are text items denial.kinds
+
+  -- the variables of what is to happen are among theirs
+  happen_in : AreIn (vars_of happen) (flat_map cond_vars happen)
+  happen_in = all_as_written (IsIn (vars_of happen)) (flat_map cond_vars happen) (each_in (vars_of happen))
+
+  pub happen_asked : AreAsked text [] (vars_of happen) happen
+  happen_asked = record {
     scope = scope_of;
     declared = refl;
     seen = refl;
-    known = [];
-    ground = tt;
-    moded = moded_front scope_of (count_early (second_in items) items) [] items denial.plain denial.known;
+    moded = with_known scope_of [] happen (events_moded text scope_of refl refl [] happen happen_are);
   }
 
-  pub back_moded : AllByRecursion (λ v. IsTrue (is_ground ((standing b).value v))) (flat_map cond_vars (conds_of (front_of items))) → AreModed text b (conds_of (back_of items))
-  back_moded ground = record {
+  pub front_asked : AreAsked text (vars_of happen) (vars_with (vars_of happen) front) front
+  front_asked = record {
     scope = scope_of;
     declared = refl;
     seen = refl;
-    known = known_after [] (front_of items);
-    ground = all_after (λ v. IsTrue (is_ground ((standing b).value v))) [] (front_of items) tt ground;
-    moded = moded_back scope_of (count_early (second_in items) items) [] items denial.plain denial.known;
+    moded = with_known scope_of (vars_of happen) front (front_moded scope_of (count_early (second_in items) items) [] (vars_of happen) items tt happen_in denial.plain denial.known);
   }
+
+  pub back_asked : AreAsked text (vars_with (vars_of happen) front) [] (conds_of (back_of items))
+  back_asked =
+      let more : List ℕ = vars_with (vars_of happen) front in
+      let both = without (IsIn more) (vars_of happen) (flat_map cond_vars front) (each_in more) in
+      record {
+        scope = scope_of;
+        declared = refl;
+        seen = refl;
+        moded = back_moded scope_of (count_early (second_in items) items) [] more items tt (all_as_written (IsIn more) (flat_map cond_vars happen) both.0) both.1 denial.plain denial.known;
+      }

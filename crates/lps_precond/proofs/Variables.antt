@@ -1,5 +1,5 @@
 -- The variables of conditions: what is put in for them decides the conditions, is ground where these are, and is no larger.
-use Rattle.std.proofs.Common.{ℕ, true, ◌≡◌, ◌≤◌, List, [], ◌∷◌, map, refl, sym, ap, subst, ◌∙◌, arith}
+use Rattle.std.proofs.Common.{ℕ, true, ◌≡◌, ◌≤◌, ◌<◌, List, [], ◌∷◌, map, refl, sym, ap, subst, ◌∙◌, arith}
 use Rattle.std.specs.Prelude.{IsTrue, ◌&&◌}
 use Rattle.std.specs.BTreeSet.{insert_key}
 use Rattle.std.specs.declared.cmp.Ordering.{Ordering}
@@ -12,11 +12,9 @@ use Rattle.lps_terms.specs.declared.built.Built.TheVariants as b
 use Rattle.lps_terms.specs.declared.cond.Cond.{Cond}
 use Rattle.lps_terms.specs.declared.cond.Cond.TheVariants as c
 use Rattle.lps_terms.specs.declared.expr.Expr.{Expr}
-use Rattle.lps_terms.specs.declared.expr.Expr.TheVariants as e
 use Rattle.lps_terms.specs.declared.term.Term.{Term}
-use Rattle.lps_terms.specs.declared.term.Term.TheVariants as t
 use Rattle.lps_terms.specs.Forms.{term_ind}
-use Rattle.lps_terms.specs.Put.{put, put-App, put-Var, put-Var_each}
+use Rattle.lps_terms.specs.Put.{put, put-App, put-Var}
 use Rattle.lps_terms.specs.Symbols.{symbols_of, symbols_of_all, symbols_of_all-cons, symbols_of-App}
 use Rattle.lps_model.specs.VariableLists.{args_vars, built_vars, cond_vars, expr_vars, term_vars}
 use Rattle.lps_derivation.specs.Expressions.{put_expr, put_expr-Leaf, put_expr-Apply, expr_ind, expr_symbols_of, expr_symbols_of-Leaf, expr_symbols_of-Apply}
@@ -26,38 +24,13 @@ use Rattle.lps_meaning.proofs.Occurrences.{Agree, same_built, same_lit}
 use Rattle.lps_solve.specs.Answers.{with_vars}
 use Rattle.lps_solve.specs.Met.{IsGroundBuilt, IsGroundCond, is_ground_expr}
 use Rattle.lps_solve.proofs.Grounds.{first_of_two, ground_apply, ground_leaf, second_of}
-use Rattle.lps_solve.proofs.Vars.{all_append, vars_of-App, vars_of-Apply, vars_of-Int, vars_of-Leaf, vars_of-Sym, vars_of-Var}
+use Rattle.lps_solve.proofs.Vars.{all_append, all_weaker, vars_of-App, vars_of-Apply, vars_of-Int, vars_of-Leaf, vars_of-Sym, vars_of-Var}
 
 -- ---- the same put in gives the same
 
 pub same_cond : (s r : ℕ → Term) (k : Cond) → Agree s r (cond_vars k) → put_cond s k ≡ put_cond r k
 same_cond s r (c.Lit lit) h = ap (λ l. c.Lit l) (same_lit s r lit h)
 same_cond s r (c.Built built) h = ap (λ x. c.Built x) (same_built s r built h)
-
--- ---- each variable in its own place
-
-itself_expr : (x : Expr) → put_expr (λ v. t.Var v) x ≡ x
-itself_expr = expr_ind (λ x. put_expr (λ v. t.Var v) x ≡ x)
-    (λ x. put_expr-Leaf (λ v. t.Var v) x ∙ ap (λ y. e.Leaf y) (put-Var_each x))
-    (λ op x y one two. put_expr-Apply (λ v. t.Var v) op x y ∙ (λ i. e.Apply op (one i) (two i)))
-
-itself_built : (x : Built) → put_built (λ v. t.Var v) x ≡ x
-itself_built (b.Same x y) = λ i. b.Same (put-Var_each x i) (put-Var_each y i)
-itself_built (b.Differ x y) = λ i. b.Differ (put-Var_each x i) (put-Var_each y i)
-itself_built (b.Is x y) = λ i. b.Is (put-Var_each x i) (itself_expr y i)
-itself_built (b.Compare rel x y) = λ i. b.Compare rel (itself_expr x i) (itself_expr y i)
-
-itself_all : (ts : List Term) → map (put (λ v. t.Var v)) ts ≡ ts
-itself_all [] = refl
-itself_all (x ∷ xs) = λ i. put-Var_each x i ∷ itself_all xs i
-
-itself_cond : (k : Cond) → put_cond (λ v. t.Var v) k ≡ k
-itself_cond (c.Lit l) = λ i. c.Lit (record { negated = l.negated; atom = record { name = l.atom.name; args = itself_all l.atom.args i } })
-itself_cond (c.Built x) = ap (λ y. c.Built y) (itself_built x)
-
-pub itself_conds : (ks : List Cond) → map (put_cond (λ v. t.Var v)) ks ≡ ks
-itself_conds [] = refl
-itself_conds (k ∷ ks) = λ i. itself_cond k i ∷ itself_conds ks i
 
 -- ---- what is put in is ground where what comes out is
 
@@ -152,6 +125,10 @@ fits_cond s (c.Built x) h = fits_built s x h
 
 -- ---- variables in order
 
+-- variables below a number are below a larger one
+pub below_more : (n m : ℕ) (vars : List ℕ) → n ≤ m → AllByRecursion (λ v. v < n) vars → AllByRecursion (λ v. v < m) vars
+below_more n m vars le h = all_weaker (λ v. v < n) (λ v. v < m) (λ v lt. omega (arith, lt, le)) vars h
+
 module _ (P : ℕ → Type 0) where
   put_in_by : (known : List ℕ) (v w : ℕ) (o : Ordering) → nat_cmp v w ≡ o → P w → P v → AllByRecursion P known → AllByRecursion P (insert_key nat_cmp known v) →
       AllByRecursion P (insert_key nat_cmp (w ∷ known) v)
@@ -163,7 +140,8 @@ module _ (P : ℕ → Type 0) where
   put_in [] v new all = (new, tt)
   put_in (w ∷ known) v new all = put_in_by known v w (nat_cmp v w) refl all.0 new all.1 (put_in known v new all.1)
 
-  with_all : (known vars : List ℕ) → AllByRecursion P known → AllByRecursion P vars → AllByRecursion P (with_vars known vars)
+  -- what holds of some variables and of others holds of both in order
+  pub with_all : (known vars : List ℕ) → AllByRecursion P known → AllByRecursion P vars → AllByRecursion P (with_vars known vars)
   with_all known [] all more = all
   with_all known (v ∷ vars) all more = with_all (insert_key nat_cmp known v) vars (put_in known v more.0 all) more.1
 
@@ -182,7 +160,8 @@ module _ (P : ℕ → Type 0) where
   taken [] v all = (all.0, tt)
   taken (w ∷ known) v all = taken_by known v w (nat_cmp v w) refl (nat_cmp-IsAntisymmetric v w) all (taken known v)
 
-  without : (known vars : List ℕ) → AllByRecursion P (with_vars known vars) → AllByRecursion P known × AllByRecursion P vars
+  -- and the other way round
+  pub without : (known vars : List ℕ) → AllByRecursion P (with_vars known vars) → AllByRecursion P known × AllByRecursion P vars
   without known [] all = (all, tt)
   without known (v ∷ vars) all =
       let later = without (insert_key nat_cmp known v) vars all in

@@ -1,5 +1,5 @@
--- Denials cut where the second of their times begins: conditions on the state before and on what is to happen, and
--- conditions on the state after.
+-- Denials cut into what is to happen, the conditions before the second of their times begins, which are on the state before, and
+-- those from there on, which are on the state after.
 use Rattle.std.specs.Prelude.{ℕ, suc, Bool, false, List, [], ◌∷◌, Option, Some, None, if◌then◌else◌, map, take, drop}
 use Rattle.std.specs.List.{flat_map}
 use Rattle.lps_terms.specs.declared.cond.Cond.{Cond}
@@ -10,28 +10,32 @@ use Rattle.lps_terms.specs.declared.text.Text.{Text}
 use Rattle.lps_model.specs.Order.{stands_at}
 use Rattle.lps_model.specs.Rules.{denials}
 
--- the names of what is to happen, the conditions before the second time begins, and those from there on
+-- what is to happen, as conditions, the conditions before the second time begins, and those from there on
 pub record Cut : Type 0 where
-  pub names : List (List ℕ)
+  pub happen : List Cond
   pub front : List Cond
   pub back : List Cond
 
--- the item as a condition: what is to happen is a positive literal
+-- the item as a condition on a state: what is to happen is none
 abbrev pub cond_of : Item → List Cond
 cond_of (i.At l time) = c.Lit l ∷ []
 cond_of (i.Bare l) = c.Lit l ∷ []
 cond_of (i.Built built) = c.Built built ∷ []
-cond_of (i.Span a from to) = c.Lit (record { negated = false; atom = a }) ∷ []
+cond_of (i.Span a from to) = []
 cond_of (i.Con con) = []
 
--- the items as conditions
+-- the items as conditions on a state
 abbrev pub conds_of : List Item → List Cond
 conds_of items = flat_map cond_of items
 
--- the name of what is to happen
-abbrev pub name_of : Item → List (List ℕ)
-name_of (i.Span a from to) = a.name ∷ []
-name_of _ = []
+-- what is to happen, as a condition on events
+abbrev pub event_of : Item → List Cond
+event_of (i.Span a from to) = c.Lit (record { negated = false; atom = a }) ∷ []
+event_of _ = []
+
+-- the items as conditions on events
+abbrev pub events_of : List Item → List Cond
+events_of items = flat_map event_of items
 
 -- the second time of the first item that has two
 abbrev pub second_in : List Item → Option ℕ
@@ -59,7 +63,7 @@ back_of items = drop (count_early (second_in items) items) items
 
 -- a denial, cut
 abbrev pub cut : List Item → Cut
-cut items = record { names = flat_map name_of items; front = conds_of (front_of items); back = conds_of (back_of items) }
+cut items = record { happen = events_of items; front = conds_of (front_of items); back = conds_of (back_of items) }
 
 -- the denials of a text, cut, in text order
 abbrev pub cuts : Text → List Cut

@@ -1,3 +1,3 @@
 pub mod Cut
-pub mod Rows
+pub mod Stages
 pub mod Judged

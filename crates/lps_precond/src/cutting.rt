@@ -1,9 +1,8 @@
 //! Where denials are cut, and their items as conditions.
 ghost use Rattle.std.specs.Prelude.{◌≡◌, ◌≤◌, ◌++◌, IfOk, OnOk, length};
-ghost use Rattle.std.specs.List.{flat_map};
-ghost use Rattle.lps_precond.specs.Cut.{cond_of, conds_of, count_early, is_late, name_of, second_in};
+ghost use Rattle.lps_precond.specs.Cut.{cond_of, conds_of, count_early, events_of, is_late, second_in};
 
-use lps_terms::{Cond, Item, Lit, Name, copy_atom, copy_built, copy_lit};
+use lps_terms::{Cond, Item, Lit, copy_atom, copy_built, copy_lit};
 use sqlite_items::Items;
 use std::alloc::{AllocError, Global};
 
@@ -42,7 +41,7 @@ pub(crate) fn early_items(second: Option<u32>, items: &[Item]) -> usize
     items.len()
 }
 
-/// The items as conditions.
+/// The items as conditions on a state, for which what is to happen is none.
 pub(crate) fn conditions(alloc: Global, items: &[Item]) -> Result<Items<Cond>, AllocError>
     ensures { IfOk result (λ conds. conds ≡ conds_of items.now) }
 {
@@ -61,24 +60,24 @@ fn add_condition(alloc: Global, item: &Item, conds: &mut Vec<Cond>) -> Result<()
         Item::At(lit, _) => conds.push(Cond::Lit(copy_lit(alloc, lit)?))?,
         Item::Bare(lit) => conds.push(Cond::Lit(copy_lit(alloc, lit)?))?,
         Item::Built(built) => conds.push(Cond::Built(copy_built(alloc, built)?))?,
-        Item::Span(atom, _, _) => conds.push(Cond::Lit(Lit {
-            negated: false,
-            atom: copy_atom(alloc, atom)?,
-        }))?,
+        Item::Span(_, _, _) => {}
         Item::Con(_) => {}
     }
     Ok(())
 }
 
-/// The names of what is to happen.
-pub(crate) fn names_of(alloc: Global, items: &[Item]) -> Result<Items<Name>, AllocError>
-    ensures { IfOk result (λ names. names ≡ flat_map name_of items.now) }
+/// What is to happen, as conditions on events.
+pub(crate) fn events(alloc: Global, items: &[Item]) -> Result<Items<Cond>, AllocError>
+    ensures { IfOk result (λ conds. conds ≡ events_of items.now) }
 {
-    let mut names = Vec::new(alloc);
+    let mut conds = Vec::new(alloc);
     for item in items {
         if let Item::Span(atom, _, _) = item {
-            names.push(atom.name.copy(alloc)?)?;
+            conds.push(Cond::Lit(Lit {
+                negated: false,
+                atom: copy_atom(alloc, atom)?,
+            }))?;
         }
     }
-    Ok(Items::from_vec(names))
+    Ok(Items::from_vec(conds))
 }

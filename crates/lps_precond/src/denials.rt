@@ -1,34 +1,33 @@
-ghost use Rattle.std.specs.Prelude.{◌≡◌, ℕ, true, false, List, length, IfOk, IsTrue, Contains};
-ghost use Rattle.std.specs.List.{list_any};
+ghost use Rattle.std.specs.Prelude.{◌≡◌, ◌≤◌, ◌<◌, ◌↔◌, ◌⊎◌, [], ℕ, true, false, None, List, length, IfOk, OnOk, Contains};
 ghost use Rattle.lps_terms.specs.declared.atom.Atom.{Atom as Fact};
-ghost use Rattle.lps_terms.specs.declared.text.Text.{Text};
 ghost use Rattle.lps_model.specs.declared.trace.Trace.{Trace};
-ghost use Rattle.lps_model.specs.Order.{happens};
 ghost use Rattle.lps_model.specs.Clauses.{clauses};
+ghost use Rattle.lps_model.specs.Rules.{denials};
+ghost use Rattle.lps_index.specs.Spoken.{IsFound, of_items};
 ghost use Rattle.lps_derivation.specs.Levels.{AreLevels};
-ghost use Rattle.lps_facts.specs.Facts.{IsLater, members, with_facts};
-ghost use Rattle.lps_meaning.specs.Denials.{ViolatesNone};
+ghost use Rattle.lps_facts.specs.Facts.{members};
 ghost use Rattle.lps_meaning.specs.Reports.{IsState};
-ghost use Rattle.lps_model.specs.Rules.{kind_of};
-ghost use Rattle.lps_solve.specs.Met.{AreGround};
 ghost use Rattle.lps_causal.specs.Names.{AreEvents, AreFluents};
 ghost use Rattle.lps_causal.specs.Next.{IsUpdate};
 ghost use Rattle.lps_precond.specs.Cut.{cuts};
-ghost use Rattle.lps_precond.specs.Judged.{IsJudged, IsLeast};
-ghost use Rattle.lps_precond.specs.Rows.{AreAllFit, AreRowsOfAll, all_happen, rows_in};
+ghost use Rattle.lps_precond.specs.Judged.{IsJudged, IsLeast, IsLessened, IsUpTo};
+ghost use Rattle.lps_precond.specs.Stages.{AreLate, AreNews, IsAskable, IsConcerned, MayTurn, ViolateNone};
 
 use crate::denial::Denial;
+use crate::step::Step;
 use lps_facts::Facts;
 use lps_solve::Program;
-use lps_terms::{Atom, Body, Text, Values};
+use lps_terms::{Atom, Body, Text};
 use std::alloc::{AllocError, Global};
 use std::marker::Model;
 
-/// The denials of a text, ready to be tried. Contracts see them in text order, each cut where the second of its times
-/// begins.
+/// The denials of a text, ready to be tried. Contracts see them in text order, each cut into what is to happen and the
+/// conditions before and after the second of its times begins.
 #[derive(Drop)]
 pub struct Denials {
     denials: Vec<Denial>,
+    /// The places of those that have conditions on the state after.
+    late: Vec<usize>,
 }
 
 impl Model for Denials {
@@ -44,7 +43,9 @@ impl Model for Denials {
 
     ghost view = { λ denials. denials.denials.items };
 
-    ghost invariant = { λ denials. length denials.denials.items < 2 ^ 32 };
+    ghost use Rattle.lps_precond.specs.Stages.{AreLate};
+
+    ghost invariant = { λ denials. (length denials.denials.items < 2 ^ 32) × AreLate denials.denials.items denials.late.items };
 }
 
 impl Denials {
@@ -62,124 +63,188 @@ impl Denials {
         if u32::try_from(denials.len()).is_err() {
             return Err(AllocError);
         }
-        Ok(Denials { denials })
+        let late = late_of(alloc, denials.as_slice())?;
+        Ok(Denials { denials, late })
     }
 
-    /// Whether there is a denial each of whose events has the name of one of these. Where there is none, these violate nothing in
-    /// any state, and need not be tried.
-    pub fn concern(&self, events: &[Atom]) -> bool
-        ensures { (text : Text) → self.now ≡ cuts text → result ≡ false → (level : List ℕ → ℕ) (trace : Trace) → ViolatesNone text level trace events.now }
-    {
-        any_may_be_met(self.denials.as_slice(), events)
-    }
-
-    /// The least number of a denial that the events violate, or none where they violate none. The facts are the state that the
-    /// events come in, and `next` is the state that they make of it.
+    /// The least number of a denial that the events of the step violate, or none where they violate none.
     ///
-    /// An error comes where memory runs out. The facts are as before on every way out.
+    /// The set of the step has exactly its events, and those that are not new violate no denial. An error comes where memory runs
+    /// out.
     pub fn least_violated(
         &self,
         alloc: Global,
         program: &Program,
-        facts: &mut Facts,
-        next: &Facts,
-        events: &[Atom],
+        step: &Step<'_>,
     ) -> Result<Option<u32>, AllocError>
         requires denials { self.now ≡ cuts program.now }
-        requires state { AreFluents program.now (members facts.now) }
-        requires events { AreEvents program.now events.now }
-        requires next { IsUpdate program.now (members facts.now) events.now (members next.now) }
-        ensures judged { IfOk result (λ found. (level : List ℕ → ℕ) → AreLevels (clauses program.now) level → (trace : Trace) → IsState program.now level trace (length trace.cycles) (members facts.old) → IsJudged program.now level trace events.now found) }
-        ensures same { facts.new ≡ facts.old }
+        requires state { AreFluents program.now (members step.now.before.now) }
+        requires events { AreEvents program.now step.now.events.now }
+        requires happened { (a : Fact) → Contains (members step.now.happened.now) a ↔ Contains step.now.events.now a }
+        requires next { IsUpdate program.now (members step.now.before.now) step.now.events.now (members step.now.after.now) }
+        requires news { AreNews program.now step.now.new.now (members step.now.happened.now) (members step.now.before.now) (members step.now.after.now) step.now.is_changed }
+        ensures judged { IfOk result (λ found. (level : List ℕ → ℕ) → AreLevels (clauses program.now) level → (trace : Trace) → IsState program.now level trace (length trace.cycles) (members step.now.before.now) → IsJudged program.now level trace step.now.events.now found) }
+        ensures allowed { IfOk result (λ found. found ≡ None → ViolateNone program.now (members step.now.happened.now) (members step.now.before.now) (members step.now.after.now)) }
     {
         program.lawful();
-        let rows = self.rows_before(alloc, program, facts, events)?;
-        self.first_met(alloc, program, next, rows.as_slice())
+        let mut new = Facts::new(alloc);
+        new.insert_all(step.new)?;
+        self.least_by(alloc, program, step, &new)
     }
 
-    /// For each denial its rows over the facts together with the events.
-    fn rows_before(
+    /// The least number, where the new events are also given as a set.
+    fn least_by(
         &self,
         alloc: Global,
         program: &Program,
-        facts: &mut Facts,
-        events: &[Atom],
-    ) -> Result<Vec<Vec<Values>>, AllocError>
-        requires denials { self.now ≡ cuts program.now }
-        requires state { AreFluents program.now (members facts.now) }
-        requires events { AreEvents program.now events.now }
-        ensures rows { IfOk result (λ rows. AreRowsOfAll program.now (members (with_facts true events.now facts.old)) self.now (rows_in rows.items)) }
-        ensures same { facts.new ≡ facts.old }
-    {
-        let mark = facts.mark();
-        let rows = self.rows_with(alloc, program, facts, events);
-        facts.undo_to(&mark);
-        rows
-    }
-
-    /// The same, and the events stay among the facts.
-    fn rows_with(
-        &self,
-        alloc: Global,
-        program: &Program,
-        facts: &mut Facts,
-        events: &[Atom],
-    ) -> Result<Vec<Vec<Values>>, AllocError>
-        requires denials { self.now ≡ cuts program.now }
-        requires state { AreFluents program.now (members facts.now) }
-        requires events { AreEvents program.now events.now }
-        ensures rows { IfOk result (λ rows. AreRowsOfAll program.now (members (with_facts true events.now facts.old)) self.now (rows_in rows.items)) }
-        ensures later { IsLater facts.old facts.new }
-    {
-        facts.insert_all(events)?;
-        self.rows_of_all(alloc, program, facts, events)
-    }
-
-    /// For each denial its rows over the facts, among which the events are.
-    fn rows_of_all(
-        &self,
-        alloc: Global,
-        program: &Program,
-        facts: &Facts,
-        events: &[Atom],
-    ) -> Result<Vec<Vec<Values>>, AllocError>
-        requires denials { self.now ≡ cuts program.now }
-        requires ground { (a : Fact) → Contains (members facts.now) a → AreGround a.args }
-        requires happened { (a : Fact) → Contains (members facts.now) a → IsTrue (happens (kind_of program.now a.name)) → Contains events.now a }
-        ensures { IfOk result (λ rows. AreRowsOfAll program.now (members facts.now) self.now (rows_in rows.items)) }
-    {
-        let mut rows = Vec::new(alloc);
-        for denial in self.denials.as_slice() {
-            rows.push(denial.rows(alloc, program, facts, events)?)?;
-        }
-        Ok(rows)
-    }
-
-    /// The number of the first denial one of whose rows leaves what is met over the facts.
-    fn first_met(
-        &self,
-        alloc: Global,
-        program: &Program,
-        facts: &Facts,
-        rows: &[Vec<Values>],
+        step: &Step<'_>,
+        new: &Facts,
     ) -> Result<Option<u32>, AllocError>
         requires denials { self.now ≡ cuts program.now }
-        requires ground { (a : Fact) → Contains (members facts.now) a → AreGround a.args }
-        requires rows { AreAllFit self.now (rows_in rows.now) }
-        ensures { IfOk result (λ found. (before : List Fact) → AreRowsOfAll program.now before self.now (rows_in rows.now) → (level : List ℕ → ℕ) → AreLevels (clauses program.now) level → IsLeast (clauses program.now) before (members facts.now) level self.now found) }
+        requires new { (a : Fact) → Contains (members new.now) a ↔ Contains step.now.new.now a }
+        requires asked { IsAskable program.now (members new.now) (members step.now.happened.now) (members step.now.before.now) (members step.now.after.now) step.now.is_changed }
+        ensures { IfOk result (λ found. (level : List ℕ → ℕ) → AreLevels (clauses program.now) level → IsLeast (clauses program.now) (members step.now.happened.now) (members step.now.before.now) (members step.now.after.now) level self.now found) }
     {
-        for i in 0..rows.len() {
-            if self.denials[i].is_met_by_one(alloc, program, facts, rows[i].as_slice())? {
-                return Ok(Some(i as u32 + 1));
-            }
+        program.lawful();
+        let turned = self.least_turned(alloc, program, step, new)?;
+        self.least_concerned(alloc, program, step, new, turned)
+    }
+
+    /// The least number of a violated one of the denials that old events alone may violate now, or none.
+    fn least_turned(
+        &self,
+        alloc: Global,
+        program: &Program,
+        step: &Step<'_>,
+        new: &Facts,
+    ) -> Result<Option<u32>, AllocError>
+        requires denials { self.now ≡ cuts program.now }
+        requires asked { IsAskable program.now (members new.now) (members step.now.happened.now) (members step.now.before.now) (members step.now.after.now) step.now.is_changed }
+        ensures { IfOk result (λ found. (level : List ℕ → ℕ) → AreLevels (clauses program.now) level → IsLessened (clauses program.now) (members step.now.happened.now) (members step.now.before.now) (members step.now.after.now) level self.now (MayTurn step.now.is_changed self.now) None found) }
+    {
+        if !step.is_changed {
+            return Ok(None);
         }
-        Ok(None)
+        self.least_at(alloc, program, step, new, self.late.as_slice(), None)
+    }
+
+    /// The least of this number and of those of the violated denials that may be concerned by one of the new events.
+    fn least_concerned(
+        &self,
+        alloc: Global,
+        program: &Program,
+        step: &Step<'_>,
+        new: &Facts,
+        turned: Option<u32>,
+    ) -> Result<Option<u32>, AllocError>
+        requires denials { self.now ≡ cuts program.now }
+        requires asked { IsAskable program.now (members new.now) (members step.now.happened.now) (members step.now.before.now) (members step.now.after.now) step.now.is_changed }
+        ensures { IfOk result (λ found. (level : List ℕ → ℕ) → AreLevels (clauses program.now) level → IsLessened (clauses program.now) (members step.now.happened.now) (members step.now.before.now) (members step.now.after.now) level self.now (IsConcerned program.now step.now.new.now) turned found) }
+    {
+        let mut least = turned;
+        for event in step.new {
+            least = self.least_by_event(alloc, program, step, new, event, least)?;
+        }
+        Ok(least)
+    }
+
+    /// The same for one event.
+    fn least_by_event(
+        &self,
+        alloc: Global,
+        program: &Program,
+        step: &Step<'_>,
+        new: &Facts,
+        event: &Atom,
+        least: Option<u32>,
+    ) -> Result<Option<u32>, AllocError>
+        requires denials { self.now ≡ cuts program.now }
+        requires asked { IsAskable program.now (members new.now) (members step.now.happened.now) (members step.now.before.now) (members step.now.after.now) step.now.is_changed }
+        ensures { IfOk result (λ found. (level : List ℕ → ℕ) → AreLevels (clauses program.now) level → IsLessened (clauses program.now) (members step.now.happened.now) (members step.now.before.now) (members step.now.after.now) level self.now (IsFound of_items (denials program.now) event.now) least found) }
+    {
+        let found = program.index().denials_for(event);
+        let least = self.least_at(alloc, program, step, new, found.keyed, least)?;
+        self.least_at(alloc, program, step, new, found.others, least)
+    }
+
+    /// The least of this number and of those of the violated denials at the places.
+    fn least_at(
+        &self,
+        alloc: Global,
+        program: &Program,
+        step: &Step<'_>,
+        new: &Facts,
+        places: &[usize],
+        given: Option<u32>,
+    ) -> Result<Option<u32>, AllocError>
+        requires denials { self.now ≡ cuts program.now }
+        requires asked { IsAskable program.now (members new.now) (members step.now.happened.now) (members step.now.before.now) (members step.now.after.now) step.now.is_changed }
+        requires places { (place : ℕ) → Contains places.now place → place < length self.now }
+        ensures { IfOk result (λ found. (level : List ℕ → ℕ) → AreLevels (clauses program.now) level → IsLessened (clauses program.now) (members step.now.happened.now) (members step.now.before.now) (members step.now.after.now) level self.now (Contains places.now) given found) }
+    {
+        let mut least = given;
+        for place in places {
+            least = self.lesser(alloc, program, step, new, *place, least)?;
+        }
+        Ok(least)
+    }
+
+    /// The lesser of this number and of that of the denial at the place, where the events violate it.
+    fn lesser(
+        &self,
+        alloc: Global,
+        program: &Program,
+        step: &Step<'_>,
+        new: &Facts,
+        place: usize,
+        least: Option<u32>,
+    ) -> Result<Option<u32>, AllocError>
+        requires denials { self.now ≡ cuts program.now }
+        requires asked { IsAskable program.now (members new.now) (members step.now.happened.now) (members step.now.before.now) (members step.now.after.now) step.now.is_changed }
+        requires place { place < length self.now }
+        ensures { IfOk result (λ found. (level : List ℕ → ℕ) → AreLevels (clauses program.now) level → IsLessened (clauses program.now) (members step.now.happened.now) (members step.now.before.now) (members step.now.after.now) level self.now (λ j. j ≡ place) least found) }
+    {
+        let _ = &self.denials;
+        let number = place as u32 + 1;
+        if is_up_to(least, number) {
+            return Ok(least);
+        }
+        if !self.denials[place].is_violated(alloc, program, step, new)? {
+            return Ok(least);
+        }
+        Ok(Some(number))
     }
 }
 
-/// Whether one of the denials has all its events among these by their names.
-fn any_may_be_met(denials: &[Denial], events: &[Atom]) -> bool
-    ensures { result ≡ list_any (λ denial. all_happen denial.names events.now) denials.now }
+/// The places of the denials that have conditions on the state after.
+fn late_of(alloc: Global, denials: &[Denial]) -> Result<Vec<usize>, AllocError>
+    ensures { IfOk result (λ late. AreLate denials.now late.items) }
 {
-    denials.iter().any(|denial| denial.may_be_met(events))
+    let mut late = Vec::new(alloc);
+    for place in 0..denials.len() {
+        add_late(place, &denials[place], &mut late)?;
+    }
+    Ok(late)
+}
+
+/// Adds the place of the denial, where it has conditions on the state after.
+fn add_late(place: usize, denial: &Denial, late: &mut Vec<usize>) -> Result<(), AllocError>
+    ensures { OnOk result ((j : ℕ) → Contains late.new.items j ↔ (Contains late.old.items j ⊎ ((j ≡ place) × (denial.now.back ≡ [] → ⊥)))) }
+{
+    if !denial.is_late() {
+        return Ok(());
+    }
+    late.push(place)?;
+    Ok(())
+}
+
+/// Whether a number was found that is at most this one.
+fn is_up_to(found: Option<u32>, number: u32) -> bool
+    ensures under { result ≡ true → IsUpTo found number }
+    ensures over { result ≡ false → (k : ℕ) → IsUpTo found k → number ≤ k }
+{
+    match found {
+        Some(least) => least <= number,
+        None => false,
+    }
 }

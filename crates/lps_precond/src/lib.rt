@@ -1,24 +1,33 @@
 //! Denials: whether some events may happen, by the state before and the state after.
 //!
-//! It stands on the search for answers, on sets of facts that can be taken back, and on the meaning of denials, and knows
-//! nothing of how effects are found, of goals or of a run. Its theorem is that `least_violated` answers the least number of
-//! a denial that the events violate, or none where they violate none (clause `judged`).
+//! It stands on the search for answers, on the index of a text, on sets of facts that can be taken back, and on the meaning of
+//! denials, and knows nothing of how effects are found, of goals or of a run. Its theorem is that `least_violated` answers the
+//! least number of a denial that the events violate, or none where they violate none (clause `judged`).
 //!
-//! A denial is cut where the second of its times begins. What stands before the cut is asked for in the state before, with
-//! the events among the facts; each answer gives values to the variables there, and with these the rest is asked for in the
-//! state after.
+//! A denial is cut into what is to happen, the conditions before the second of its times begins, and those from there on. What is
+//! to happen is asked for over the events alone, which are a set of their own; each answer gives values to the variables there, and
+//! with these the conditions before the cut are asked for in the state before, and then the rest in the state after.
+//!
+//! Events are tried some at a time, and those before the new ones violate no denial. So a denial is asked only where the index finds
+//! it by a new event, and then from that event on; or wholly, where it has conditions on the state after and the new events changed
+//! that. The denials are asked in any order, and the least number so far is kept.
 //!
 //! Contracts cite these definitions:
 //!
 //! | file of `specs/` | defines |
 //! |---|---|
-//! | `Cut` | where a denial is cut, and its two sides as conditions |
-//! | `Rows` | the rows of values that meet the first side, and what they leave |
-//! | `Judged` | what is answered |
+//! | `Cut` | where a denial is cut, and its parts as conditions |
+//! | `Stages` | how the parts are asked one after the other, the rows of values that go from one to the next, and what is asked of new events |
+//! | `Judged` | what is answered, and how the least number is found place by place |
 #![tactic(auto)]
 
 mod cutting;
 mod denial;
 mod denials;
+mod noting;
+mod stage;
+mod start;
+mod step;
 
 pub use denials::Denials;
+pub use step::Step;

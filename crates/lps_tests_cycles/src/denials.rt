@@ -1,6 +1,5 @@
 //! The effects of events, and the denials that they violate.
 use crate::program::{effects_in, initial_facts, program_of, theory_of, tried_in};
-use lps_precond::Denials;
 use lps_tests_written::{atoms_of, shown};
 use std::alloc::Global;
 use std::process::Abort;
@@ -106,20 +105,6 @@ fn check_effects(
 fn effects_of_events(rt: HostRuntime) -> Result<(), Fail> {
     for (events, initiated, terminated) in EFFECTS {
         check_effects(&rt, rt.alloc(), events, initiated, terminated)?;
-    }
-    Ok(())
-}
-
-const PAIR: &str = "event e/0, f/0, g/0. false e from T1 to T2, f from T1 to T2.";
-
-#[test]
-fn denials_that_concern(rt: HostRuntime) -> Result<(), Fail> {
-    let alloc = rt.alloc();
-    let program = program_of(alloc, PAIR)?;
-    let denials = Denials::new(alloc, program.text().text())?;
-    for (events, want) in [("e", false), ("g, f", false), ("g, f, e", true)] {
-        let events = atoms_of(alloc, events)?;
-        assert_eq!(rt; denials.concern(events.as_slice()), want);
     }
     Ok(())
 }

@@ -1,10 +1,10 @@
 -- Trials that are made longer, taken back, and begun anew in the state after them.
-use Rattle.std.proofs.Common.{ℕ, ◌≡◌, List, [], ◌∷◌, ◌++◌, length, take, refl, sym, ap, subst, ◌∙◌, inl, inr, not, true, arith}
+use Rattle.std.proofs.Common.{ℕ, Bool, false, ◌≡◌, List, [], ◌∷◌, ◌++◌, length, take, refl, sym, ap, subst, ◌∙◌, inl, inr, not, true, arith}
 use Rattle.std.specs.Prelude.{◌↔◌, ◌⊎◌, Contains, Result, Ok, Err, OnOk}
 use Rattle.std.specs.List.{filter}
 use Rattle.std.specs.List.Sorted.{IsStrictlySortedBy}
 use Rattle.std.proofs.lemmas.List.{take_all}
-use Rattle.std.proofs.lemmas.List.Elements.{Contains-append_cases}
+use Rattle.std.proofs.lemmas.List.Elements.{Contains-append_cases, Contains-append_left, Contains-append_right}
 use Rattle.lps_terms.specs.declared.atom.Atom.{Atom}
 use Rattle.lps_terms.specs.declared.effects.Effects.{Effects}
 use Rattle.lps_terms.specs.declared.text.Text.{Text}
@@ -14,19 +14,19 @@ use Rattle.lps_model.specs.Clauses.{clauses}
 use Rattle.lps_model.specs.Formed.{is_formed}
 use Rattle.lps_model.proofs.Elements.{nothing_contained}
 use Rattle.lps_derivation.specs.Levels.{AreLevels}
-use Rattle.lps_facts.specs.Facts.{IsLater, TrailedSet, back_to, is_among, members, with_effects, with_facts}
+use Rattle.lps_facts.specs.Facts.{IsLater, TrailedSet, is_among, members, with_effects, with_facts}
 use Rattle.lps_facts.proofs.Sequences.{later_itself, later_still}
 use Rattle.lps_causal.specs.Effects.{AreEffects}
 use Rattle.lps_causal.specs.Names.{AreEvents, AreFluents}
-use Rattle.lps_causal.specs.Next.{AreBegun, AreEnded, IsAfter, IsUpdate}
+use Rattle.lps_causal.specs.Next.{AreBegun, IsAfter, IsUpdate}
 use Rattle.lps_causal.proofs.Merging.{after_has_fluents, after_more, after_none, after_once, after_same, begun_more, begun_none, ended_more, ended_none, fluents_after, is_update}
 use Rattle.lps_causal.proofs.Settled.{kept_is}
-use Rattle.lps_trial.specs.Trial.{IsLonger, IsMoment, IsTrial, TrialState, back_at, made_at_once, moment_of, trial_in}
+use Rattle.lps_precond.specs.Stages.{AreNews, ViolateNone}
+use Rattle.lps_precond.proofs.Happened.{with_events}
+use Rattle.lps_precond.proofs.News.{nothing_violated}
+use Rattle.lps_trial.specs.Trial.{IsGrown, IsLonger, IsMoment, IsTrial, TrialState, back_at, made_at_once, moment_of, no_facts, trial_in}
 
 -- ---- taken back
-
-pub same_base : (x y : TrailedSet) → IsLater x y → y.base ≡ x.base
-same_base x y later = ap (λ (set : TrailedSet). set.base) later.1
 
 pub none_taken : {X : Type 0} (xs : List X) → take 0 xs ≡ []
 none_taken [] = refl
@@ -50,6 +50,7 @@ longer_still x y z one two = record {
   begun = later_still x.begun y.begun z.begun one.begun two.begun;
   ended = taken x.ended y.ended z.ended one.ended two.ended;
   events = taken x.events y.events z.events one.events two.events;
+  happened = later_still x.happened y.happened z.happened one.happened two.happened;
 }
 
 pub longer_itself : (x : TrialState) → IsLonger x x
@@ -59,6 +60,7 @@ longer_itself x = record {
   begun = later_itself x.begun;
   ended = take_all (length x.ended) x.ended (omega arith);
   events = take_all (length x.events) x.events (omega arith);
+  happened = later_itself x.happened;
 }
 
 -- all of a list is its first part
@@ -66,31 +68,34 @@ pub all_taken : {X : Type 0} (xs : List X) → take (length xs) xs ≡ xs
 all_taken xs = take_all (length xs) xs (omega arith)
 
 pub longer_by : (x y : TrialState) → y.state ≡ x.state → IsLater x.next y.next → IsLater x.begun y.begun → take (length x.ended) y.ended ≡ x.ended → take (length x.events) y.events ≡ x.events →
-    IsLonger x y
-longer_by x y state next begun ended events = record { state = state; next = next; begun = begun; ended = ended; events = events }
+    IsLater x.happened y.happened → IsLonger x y
+longer_by x y state next begun ended events happened = record { state = state; next = next; begun = begun; ended = ended; events = events; happened = happened }
 
 -- the same of a trial that is seen as the earlier one
 pub longer_from : (x old y : TrialState) → x ≡ old → y.state ≡ x.state → IsLater x.next y.next → IsLater x.begun y.begun → take (length x.ended) y.ended ≡ x.ended → take (length x.events) y.events ≡ x.events →
-    IsLonger old y
-longer_from x old y same state next begun ended events = subst (λ (t : TrialState). IsLonger t y) same (longer_by x y state next begun ended events)
+    IsLater x.happened y.happened → IsLonger old y
+longer_from x old y same state next begun ended events happened = subst (λ (t : TrialState). IsLonger t y) same (longer_by x y state next begun ended events happened)
 
 pub is_moment : (x y : TrialState) → IsLonger x y → IsMoment (moment_of x) y
-is_moment x y longer = record { next = longer.next.0; begun = longer.begun.0 }
+is_moment x y longer = record { next = longer.next.0; begun = longer.begun.0; happened = longer.happened.0 }
 
 pub taken_back : (x y : TrialState) → IsLonger x y → back_at (moment_of x) y ≡ x
-taken_back x y longer = λ i. record { state = longer.state i; next = longer.next.1 i; begun = longer.begun.1 i; ended = longer.ended i; events = longer.events i }
+taken_back x y longer = λ i. record { state = longer.state i; next = longer.next.1 i; begun = longer.begun.1 i; ended = longer.ended i; events = longer.events i; happened = longer.happened.1 i }
 
 -- ---- no events
 
 pub is_first : (text : Text) (state : TrailedSet) → AreFluents text (members state) → IsStrictlySortedBy atom_cmp (members state) → IsTrial text (trial_in state)
 is_first text state fluents sorted = record {
-  fluents = fluents;
-  happening = record { each = λ a h. absurd (nothing_contained a h) };
-  next_fluents = fluents;
-  next_is = λ level levels. after_none text level (members state) sorted;
-  begun_are = λ level levels. begun_none text level (members state);
-  ended_are = λ level levels. ended_none text level (members state);
-  begun_anew = refl;
+  grown = record {
+    fluents = fluents;
+    happening = record { each = λ a h. absurd (nothing_contained a h) };
+    next_fluents = fluents;
+    next_is = λ level levels. after_none text level (members state) sorted;
+    begun_are = λ level levels. begun_none text level (members state);
+    ended_are = λ level levels. ended_none text level (members state);
+    happened_are = λ a. ((λ h. h), (λ h. h));
+  };
+  allowed = λ accepted formed. nothing_violated text accepted formed (members state) (members state);
 }
 
 -- ---- more events
@@ -98,7 +103,14 @@ is_first text state fluents sorted = record {
 more_events : (text : Text) (events more : List Atom) → AreEvents text events → AreEvents text more → AreEvents text (events ++ more)
 more_events text events more old new = record { each = λ a h. elim (Contains-append_cases events more a h) [ inl first ↦ old.each a first | inr later ↦ new.each a later ] }
 
-module _ (text : Text) (old : TrialState) (is : IsTrial text old) (events : List Atom) (happening : AreEvents text events) (effects made : Effects)
+-- where the set has exactly some events it has with more events exactly these too
+happened_more : (facts : TrailedSet) (events more : List Atom) (a : Atom) → Contains (members facts) a ↔ Contains events a → Contains (members (with_facts true more facts)) a ↔ Contains (events ++ more) a
+happened_more facts events more a are = (
+  λ h. elim ((with_events facts more a).0 h) [ inl old ↦ Contains-append_left events more a (are.0 old) | inr new ↦ Contains-append_right events more a new ],
+  λ h. (with_events facts more a).1 (elim (Contains-append_cases events more a h) [ inl old ↦ inl (are.1 old) | inr new ↦ inr new ]),
+)
+
+module _ (text : Text) (old : TrialState) (is : IsGrown text old) (events : List Atom) (happening : AreEvents text events) (effects made : Effects)
     (are : (level : List ℕ → ℕ) → AreLevels (clauses text) level → AreEffects text level (members old.state) events effects) (new_fluents : AreFluents text effects.initiated)
     (initiated : made.initiated ≡ effects.initiated) (terminated : made.terminated ≡ filter (λ a. not (is_among (members old.begun) a)) effects.terminated) where
   abbrev longer : TrialState
@@ -108,6 +120,7 @@ module _ (text : Text) (old : TrialState) (is : IsTrial text old) (events : List
     begun = with_facts true made.initiated old.begun;
     ended = old.ended ++ made.terminated;
     events = old.events ++ events;
+    happened = with_facts true events old.happened;
   }
 
   gone : (a : Atom) → Contains made.terminated a ↔ (Contains effects.terminated a × (Contains (members old.begun) a → ⊥))
@@ -119,8 +132,8 @@ module _ (text : Text) (old : TrialState) (is : IsTrial text old) (events : List
       subst (λ (atoms : List Atom). AreBegun text level (members old.state) (old.events ++ events) (members (with_facts true atoms old.begun))) (sym initiated)
       (begun_more text level (members old.state) old.events events effects (are level levels) old.begun (is.begun_are level levels))
 
-  pub is_longer : old.begun.base ≡ (with_facts true made.initiated old.begun).base → IsTrial text longer
-  is_longer same = record {
+  is_longer : IsGrown text longer
+  is_longer = record {
     fluents = is.fluents;
     happening = more_events text old.events events is.happening happening;
     next_fluents = fluents_after text old.next made is.next_fluents (subst (AreFluents text) (sym initiated) new_fluents);
@@ -130,22 +143,35 @@ module _ (text : Text) (old : TrialState) (is : IsTrial text old) (events : List
     ended_are = λ level levels.
         ended_more text level (members old.state) old.events events effects (are level levels) old.begun (is.begun_are level levels) made initiated gone old.next (is.next_is level levels)
         old.ended (is.ended_are level levels);
-    begun_anew = sym same ∙ is.begun_anew;
+    happened_are = λ a. happened_more old.happened old.events events a (is.happened_are a);
   }
 
   -- a trial that has just these
-  pub is_longer_so : (state next begun : TrailedSet) (ended all : List Atom) → state ≡ old.state → next ≡ with_effects made old.next → begun ≡ with_facts true made.initiated old.begun → begun.base ≡ old.begun.base →
-      ended ≡ old.ended ++ made.terminated → all ≡ old.events ++ events → IsTrial text (record { state = state; next = next; begun = begun; ended = ended; events = all })
-  is_longer_so state next begun ended all state_is next_is begun_is base ended_is all_is =
-      let same : (record { state = state; next = next; begun = begun; ended = ended; events = all }) ≡ longer =
-      λ i. record { state = state_is i; next = next_is i; begun = begun_is i; ended = ended_is i; events = all_is i } in
-      subst (IsTrial text) (sym same) (is_longer (sym base ∙ ap (λ (set : TrailedSet). set.base) begun_is))
+  pub is_longer_so : (state next begun : TrailedSet) (ended all : List Atom) (happened : TrailedSet) → state ≡ old.state → next ≡ with_effects made old.next → begun ≡ with_facts true made.initiated old.begun →
+      ended ≡ old.ended ++ made.terminated → all ≡ old.events ++ events → happened ≡ with_facts true events old.happened →
+      IsGrown text (record { state = state; next = next; begun = begun; ended = ended; events = all; happened = happened })
+  is_longer_so state next begun ended all happened state_is next_is begun_is ended_is all_is happened_is =
+      let same : (record { state = state; next = next; begun = begun; ended = ended; events = all; happened = happened }) ≡ longer =
+      λ i. record { state = state_is i; next = next_is i; begun = begun_is i; ended = ended_is i; events = all_is i; happened = happened_is i } in
+      subst (IsGrown text) (sym same) is_longer
+
+  no_effects : made.initiated ≡ [] → made.terminated ≡ [] → with_effects made old.next ≡ old.next
+  no_effects one two = λ i. with_facts true (one i) (with_facts false (two i) old.next)
+
+  -- what is new
+  pub news_are : ViolateNone text (members old.happened) (members old.state) (members old.next) → (state next happened : TrailedSet) → state ≡ old.state → next ≡ with_effects made old.next →
+      happened ≡ with_facts true events old.happened → (is_changed : Bool) → (is_changed ≡ false → (made.initiated ≡ []) × (made.terminated ≡ [])) → AreNews text events (members happened) (members state) (members next) is_changed
+  news_are allowed state next happened state_is next_is happened_is is_changed unchanged = record {
+    old = members old.happened;
+    earlier = members old.next;
+    split = λ a. subst (λ (set : TrailedSet). Contains (members set) a ↔ (Contains (members old.happened) a ⊎ Contains events a)) (sym happened_is) (with_events old.happened events a);
+    unchanged = λ off a.
+        let none = unchanged off in
+        subst (λ (set : TrailedSet). Contains (members set) a ↔ Contains (members old.next) a) (sym (next_is ∙ no_effects none.0 none.1)) ((λ h. h), (λ h. h));
+    allowed = subst (λ (set : TrailedSet). ViolateNone text (members old.happened) (members set) (members old.next)) (sym state_is) allowed;
+  }
 
 -- ---- results
-
-pub on_ok_weaker : {T E : Type 0} (r : Result T E) (P Q : Type 0) → (P → Q) → OnOk r P → OnOk r Q
-on_ok_weaker (Ok x) P Q f p = f p
-on_ok_weaker (Err e) P Q f p = tt
 
 pub on_ok : {T E : Type 0} (r : Result T E) (P : Type 0) → P → OnOk r P
 on_ok (Ok x) P p = p
@@ -153,7 +179,7 @@ on_ok (Err e) P p = tt
 
 -- ---- the state after the events
 
-module _ (text : Text) (accepted : IsAccepted text) (formed : is_formed text ≡ true) (old : TrialState) (is : IsTrial text old) (sorted : IsStrictlySortedBy atom_cmp (members old.state)) where
+module _ (text : Text) (accepted : IsAccepted text) (formed : is_formed text ≡ true) (old : TrialState) (is : IsGrown text old) (sorted : IsStrictlySortedBy atom_cmp (members old.state)) where
   abbrev after : List Atom
   after = members (made_at_once old).state
 
@@ -167,17 +193,20 @@ module _ (text : Text) (accepted : IsAccepted text) (formed : is_formed text ≡
   is_next = is_update text (members old.state) old.events after after_fluents after_is
 
   -- the same state before and after, with nothing begun
-  pub is_anew : (state next begun : TrailedSet) → members state ≡ after → members next ≡ members old.next → begun.base ≡ [] → begun.changes ≡ [] →
-      IsTrial text (record { state = state; next = next; begun = begun; ended = []; events = [] })
-  is_anew state next begun state_is next_is base changes = record {
-    fluents = subst (AreFluents text) (sym state_is) after_fluents;
-    happening = record { each = λ a h. absurd (nothing_contained a h) };
-    next_fluents = subst (AreFluents text) (sym next_is) is.next_fluents;
-    next_is = λ level levels.
-        subst (λ (facts : List Atom). IsAfter text level facts [] (members next)) (sym state_is)
-        (subst (IsAfter text level after []) (sym next_is) (after_same text level (members old.state) old.events after (members old.next) (after_is level levels) (is.next_is level levels)));
-    begun_are = λ level levels.
-        subst (AreBegun text level (members state) []) (sym (λ i. members (record { base = base i; changes = changes i }))) (begun_none text level (members state));
-    ended_are = λ level levels. ended_none text level (members state);
-    begun_anew = base;
+  pub is_anew : (state next begun happened : TrailedSet) → members state ≡ after → members next ≡ members old.next → begun ≡ no_facts → happened ≡ no_facts →
+      IsTrial text (record { state = state; next = next; begun = begun; ended = []; events = []; happened = happened })
+  is_anew state next begun happened state_is next_is nothing none = record {
+    grown = record {
+      fluents = subst (AreFluents text) (sym state_is) after_fluents;
+      happening = record { each = λ a h. absurd (nothing_contained a h) };
+      next_fluents = subst (AreFluents text) (sym next_is) is.next_fluents;
+      next_is = λ level levels.
+          subst (λ (facts : List Atom). IsAfter text level facts [] (members next)) (sym state_is)
+          (subst (IsAfter text level after []) (sym next_is) (after_same text level (members old.state) old.events after (members old.next) (after_is level levels) (is.next_is level levels)));
+      begun_are = λ level levels. subst (AreBegun text level (members state) []) (sym (ap members nothing)) (begun_none text level (members state));
+      ended_are = λ level levels. ended_none text level (members state);
+      happened_are = λ a. subst (λ (facts : List Atom). Contains facts a ↔ Contains [] a) (sym (ap members none)) ((λ h. h), (λ h. h));
+    };
+    allowed = λ accepted formed.
+        subst (λ (set : TrailedSet). ViolateNone text (members set) (members state) (members next)) (sym none) (nothing_violated text accepted formed (members state) (members next));
   }

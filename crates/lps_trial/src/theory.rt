@@ -1,4 +1,5 @@
-ghost use Rattle.std.specs.Prelude.{◌≡◌, ℕ, List, IfOk, IsTrue};
+ghost use Rattle.std.specs.Prelude.{◌≡◌, ◌↔◌, ℕ, List, Contains, IfOk, IsTrue, None};
+ghost use Rattle.lps_terms.specs.declared.atom.Atom.{Atom as Fact};
 ghost use Rattle.lps_model.specs.Acceptance.{IsAccepted};
 ghost use Rattle.lps_model.specs.Clauses.{clauses};
 ghost use Rattle.lps_model.specs.Formed.{is_formed};
@@ -7,13 +8,14 @@ ghost use Rattle.lps_facts.specs.Facts.{members};
 ghost use Rattle.lps_causal.specs.Effects.{AreEffects};
 ghost use Rattle.lps_causal.specs.Names.{AreEvents, AreFluents};
 ghost use Rattle.lps_precond.specs.Judged.{IsJudged};
+ghost use Rattle.lps_precond.specs.Stages.{AreNews, ViolateNone};
 ghost use Rattle.lps_causal.specs.Next.{IsUpdate};
 ghost use Rattle.lps_trial.specs.Trial.{InState};
 
 use lps_causal::CausalLaws;
 use lps_facts::Facts;
 use lps_model::Accepted;
-use lps_precond::Denials;
+use lps_precond::{Denials, Step};
 use lps_solve::Program;
 use lps_terms::{Atom, Effects};
 use std::alloc::{AllocError, Global};
@@ -80,37 +82,32 @@ impl Theory {
     pub(crate) fn effects(
         &self,
         alloc: Global,
-        facts: &mut Facts,
+        facts: &Facts,
         events: &[Atom],
     ) -> Result<Effects, AllocError>
         requires state { AreFluents self.now (members facts.now) }
         requires events { AreEvents self.now events.now }
-        ensures effects { IfOk result (λ effects. (level : List ℕ → ℕ) → AreLevels (clauses self.now) level → AreEffects self.now level (members facts.old) events.now effects) }
+        ensures effects { IfOk result (λ effects. (level : List ℕ → ℕ) → AreLevels (clauses self.now) level → AreEffects self.now level (members facts.now) events.now effects) }
         ensures fluents { IfOk result (λ effects. AreFluents self.now effects.initiated × AreFluents self.now effects.terminated) }
-        ensures same { facts.new ≡ facts.old }
     {
         self.laws.effects(alloc, &self.program, facts, events)
     }
 
-    /// The least number of a denial that the events violate, or none where they violate none. The facts are the state that the
-    /// events come in, and `next` is the state that they make of it.
+    /// The least number of a denial that the events of the step violate, or none where they violate none. The set of the step has
+    /// exactly its events, and those that are not new violate no denial.
     pub(crate) fn least_violated(
         &self,
         alloc: Global,
-        facts: &mut Facts,
-        next: &Facts,
-        events: &[Atom],
+        step: &Step<'_>,
     ) -> Result<Option<u32>, AllocError>
-        requires state { AreFluents self.now (members facts.now) }
-        requires events { AreEvents self.now events.now }
-        requires next { IsUpdate self.now (members facts.now) events.now (members next.now) }
-        ensures judged { IfOk result (λ found. InState self.now (members facts.old) (λ level trace. IsJudged self.now level trace events.now found)) }
-        ensures same { facts.new ≡ facts.old }
+        requires state { AreFluents self.now (members step.now.before.now) }
+        requires events { AreEvents self.now step.now.events.now }
+        requires happened { (a : Fact) → Contains (members step.now.happened.now) a ↔ Contains step.now.events.now a }
+        requires next { IsUpdate self.now (members step.now.before.now) step.now.events.now (members step.now.after.now) }
+        requires news { AreNews self.now step.now.new.now (members step.now.happened.now) (members step.now.before.now) (members step.now.after.now) step.now.is_changed }
+        ensures judged { IfOk result (λ found. InState self.now (members step.now.before.now) (λ level trace. IsJudged self.now level trace step.now.events.now found)) }
+        ensures allowed { IfOk result (λ found. found ≡ None → ViolateNone self.now (members step.now.happened.now) (members step.now.before.now) (members step.now.after.now)) }
     {
-        if !self.denials.concern(events) {
-            return Ok(None);
-        }
-        self.denials
-            .least_violated(alloc, &self.program, facts, next, events)
+        self.denials.least_violated(alloc, &self.program, step)
     }
 }

@@ -1,14 +1,16 @@
-ghost use Rattle.std.specs.Prelude.{◌≡◌, ◌++◌, [], List, IfOk, OnErr, OnOk, MatchOption, length, take, not, false};
+ghost use Rattle.std.specs.Prelude.{◌≡◌, ◌++◌, [], IfOk, OnErr, OnOk, MatchOption, None, length, take, not, false};
 ghost use Rattle.std.specs.List.{filter};
 ghost use Rattle.lps_terms.specs.declared.text.Text.{Text};
 ghost use Rattle.lps_facts.specs.Facts.{IsLater, is_among, members, with_effects, with_facts};
 ghost use Rattle.lps_causal.specs.Names.{AreEvents, AreFluents};
 ghost use Rattle.lps_causal.specs.Next.{IsUpdate};
 ghost use Rattle.lps_precond.specs.Judged.{IsJudged};
-ghost use Rattle.lps_trial.specs.Trial.{InState, IsLonger, IsMoment, IsTrial, back_at, moment_of, trial_in};
+ghost use Rattle.lps_precond.specs.Stages.{AreNews};
+ghost use Rattle.lps_trial.specs.Trial.{InState, IsGrown, IsLonger, IsMoment, IsTrial, back_at, moment_of, trial_in};
 
 use crate::theory::Theory;
 use lps_facts::{Facts, Mark};
+use lps_precond::Step;
 use lps_terms::{Atom, Effects, copy_atom};
 use sqlite_items::Items;
 use std::alloc::{AllocError, Global};
@@ -22,26 +24,23 @@ pub struct Trial {
     next: Facts,
     /// What the events initiate, which no termination ends.
     begun: Facts,
-    /// How many changes of `begun` there were before the first event: none.
-    nothing: Mark,
     /// What the events terminate, but for what was initiated until then.
     ended: Vec<Atom>,
     events: Vec<Atom>,
+    /// The events as a set.
+    happened: Facts,
 }
 
 impl Model for Trial {
     ghost use Rattle.lps_terms.specs.contracts.term.Term as term;
     ghost use Rattle.std.specs.Coded.{codes};
-    ghost use Rattle.std.specs.Prelude.{◌≡◌};
     ghost use Rattle.lps_trial.specs.Trial.{TrialState};
 
     ghost Value = { TrialState };
 
     ghost coded = { Prim.hlevel (codes, term.the_row.coded) };
 
-    ghost view = { λ it. record { state = it.state; next = it.next; begun = it.begun; ended = it.ended.items; events = it.events.items } };
-
-    ghost invariant = { λ it. it.nothing ≡ 0 };
+    ghost view = { λ it. record { state = it.state; next = it.next; begun = it.begun; ended = it.ended.items; events = it.events.items; happened = it.happened } };
 }
 
 /// A moment in the life of a trial, to which `Trial::undo_to` leads back.
@@ -51,6 +50,7 @@ pub struct TrialMark {
     begun: Mark,
     ended: usize,
     events: usize,
+    happened: Mark,
 }
 
 impl Model for TrialMark {
@@ -58,7 +58,7 @@ impl Model for TrialMark {
 
     ghost Value = { Moment };
 
-    ghost view = { λ it. record { next = it.next; begun = it.begun; ended = it.ended; events = it.events } };
+    ghost view = { λ it. record { next = it.next; begun = it.begun; ended = it.ended; events = it.events; happened = it.happened } };
 }
 
 impl Trial {
@@ -69,15 +69,13 @@ impl Trial {
         ensures trial { (text : Text) → AreFluents text (members state) → IsTrial text result }
     {
         state.lawful();
-        let begun = Facts::new(alloc);
-        let nothing = begun.mark();
         Trial {
             state,
             next,
-            begun,
-            nothing,
+            begun: Facts::new(alloc),
             ended: Vec::new(alloc),
             events: Vec::new(alloc),
+            happened: Facts::new(alloc),
         }
     }
 
@@ -104,6 +102,7 @@ impl Trial {
             begun: self.begun.mark(),
             ended: self.ended.len(),
             events: self.events.len(),
+            happened: self.happened.mark(),
         }
     }
 
@@ -116,6 +115,7 @@ impl Trial {
         self.begun.undo_to(&mark.begun);
         self.ended.truncate(mark.ended);
         self.events.truncate(mark.events);
+        self.happened.undo_to(&mark.happened);
     }
 
     /// Makes the trial longer by some events, where they violate no denial together with those before them; else it stays as it
@@ -160,38 +160,64 @@ impl Trial {
     ) -> Result<Option<u32>, AllocError>
         requires trial { IsTrial theory.now self.now }
         requires events { AreEvents theory.now events.now }
-        ensures trial { OnOk result (IsTrial theory.now self.new) }
+        ensures trial { IfOk result (λ found. found ≡ None → IsTrial theory.now self.new) }
         ensures judged { IfOk result (λ found. InState theory.now (members self.old.state) (λ level trace. IsJudged theory.now level trace (self.old.events ++ events.now) found)) }
         ensures events { OnOk result (self.new.events ≡ self.old.events ++ events.now) }
         ensures longer { IsLonger self.old self.new }
     {
-        self.extend(alloc, theory, events)?;
-        self.least_violated(alloc, theory)
+        let is_changed = self.extend(alloc, theory, events)?;
+        self.least_violated(alloc, theory, events, is_changed)
     }
 
-    /// The least number of a denial that the events so far violate. The trial is as before on every way out.
-    fn least_violated(&mut self, alloc: Global, theory: &Theory) -> Result<Option<u32>, AllocError>
-        requires trial { IsTrial theory.now self.now }
-        ensures judged { IfOk result (λ found. InState theory.now (members self.old.state) (λ level trace. IsJudged theory.now level trace self.old.events found)) }
-        ensures same { self.new ≡ self.old }
+    /// The least number of a denial that the events so far violate, of which all but the new ones violate none.
+    fn least_violated(
+        &self,
+        alloc: Global,
+        theory: &Theory,
+        new: &[Atom],
+        is_changed: bool,
+    ) -> Result<Option<u32>, AllocError>
+        requires grown { IsGrown theory.now self.now }
+        requires news { AreNews theory.now new.now (members self.now.happened) (members self.now.state) (members self.now.next) is_changed }
+        ensures judged { IfOk result (λ found. InState theory.now (members self.now.state) (λ level trace. IsJudged theory.now level trace self.now.events found)) }
+        ensures trial { IfOk result (λ found. found ≡ None → IsTrial theory.now self.now) }
     {
-        theory.least_violated(alloc, &mut self.state, &self.next, self.events.as_slice())
+        let step = Step {
+            events: self.events.as_slice(),
+            happened: &self.happened,
+            new,
+            before: &self.state,
+            after: &self.next,
+            is_changed,
+        };
+        theory.least_violated(alloc, &step)
     }
 
-    /// Makes the trial longer by the events and their effects, or by a part of them where memory runs out.
-    fn extend(&mut self, alloc: Global, theory: &Theory, events: &[Atom]) -> Result<(), AllocError>
+    /// Makes the trial longer by the events and their effects, or by a part of them where memory runs out. False comes where they
+    /// have none.
+    fn extend(
+        &mut self,
+        alloc: Global,
+        theory: &Theory,
+        events: &[Atom],
+    ) -> Result<bool, AllocError>
         requires trial { IsTrial theory.now self.now }
         requires events { AreEvents theory.now events.now }
-        ensures trial { OnOk result (IsTrial theory.now self.new) }
+        ensures grown { OnOk result (IsGrown theory.now self.new) }
+        ensures news { IfOk result (λ changed. AreNews theory.now events.now (members self.new.happened) (members self.new.state) (members self.new.next) changed) }
         ensures events { OnOk result (self.new.events ≡ self.old.events ++ events.now) }
         ensures longer { IsLonger self.old self.new }
     {
-        let effects = theory.effects(alloc, &mut self.state, events)?;
+        theory.lawful();
+        let effects = theory.effects(alloc, &self.state, events)?;
         let effects = but_for(alloc, effects, &self.begun)?;
+        let is_changed = are_some(&effects);
         self.begun.insert_all(effects.initiated.as_slice())?;
         push_all(alloc, &mut self.ended, effects.terminated.as_slice())?;
         self.next.apply(effects)?;
-        push_all(alloc, &mut self.events, events)
+        self.happened.insert_all(events)?;
+        push_all(alloc, &mut self.events, events)?;
+        Ok(is_changed)
     }
 
     /// Makes the state after the events the state before, and begins anew without events: nothing that was done until now can be
@@ -208,9 +234,10 @@ impl Trial {
         make_at_once(alloc, &mut self.state, self.ended.as_slice(), &self.begun)?;
         self.state.settle();
         self.next.settle();
-        self.begun.undo_to(&self.nothing);
+        self.begun = Facts::new(alloc);
         self.ended.truncate(0);
         self.events.truncate(0);
+        self.happened = Facts::new(alloc);
         Ok(())
     }
 }
@@ -252,6 +279,13 @@ fn remove_all(facts: &mut Facts, gone: &[Atom]) -> Result<(), AllocError>
         facts.remove(fact)?;
     }
     Ok(())
+}
+
+/// Whether there are any effects.
+fn are_some(effects: &Effects) -> bool
+    ensures { result ≡ false → (effects.now.initiated ≡ []) × (effects.now.terminated ≡ []) }
+{
+    !effects.initiated.is_empty() || !effects.terminated.is_empty()
 }
 
 /// The effects without the terminations of what was begun.

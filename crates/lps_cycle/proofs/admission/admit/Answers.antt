@@ -1,9 +1,8 @@
-use Rattle.std.proofs.Common.{◌∙◌, ◌≡◌, ◌+◌, ap, sym, subst, List, ◌∷◌, ◌++◌, [], drop, get_or, length, arith}
+use Rattle.std.proofs.Common.{◌∙◌, ◌≡◌, ◌+◌, ap, sym, subst, List, ◌∷◌, ◌++◌, [], drop}
 use Rattle.std.specs.List.{AllByRecursion}
 use Rattle.std.proofs.lemmas.List.{drop_more, drop_all}
 use Rattle.lps_terms.specs.declared.atom.Atom.{Atom}
 use Rattle.lps_model.specs.declared.verdict.Verdict.{Verdict}
-use Rattle.lps_model.specs.Trace.{if_admitted}
 use Rattle.lps_facts.specs.Facts.{TrailedSet, members}
 use Rattle.lps_trial.proofs.Trials.{longer_itself, longer_still}
 use Rattle.lps_cycle.specs.Admission.{AreAdmitted, IsVerdictIn, MayCome}

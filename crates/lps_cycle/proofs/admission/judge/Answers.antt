@@ -1,4 +1,4 @@
-use Rattle.std.proofs.Common.{◌∙◌, ap, sym, List, ◌∷◌, ◌++◌, [], Some, None}
+use Rattle.std.proofs.Common.{◌∙◌, ap, sym, List, ◌++◌, Some, None}
 use Rattle.std.proofs.lemmas.List.{append-nil}
 use Rattle.lps_terms.specs.declared.atom.Atom.{Atom}
 use Rattle.lps_trial.specs.Trial.{TrialState}

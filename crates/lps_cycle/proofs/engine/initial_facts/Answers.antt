@@ -1,10 +1,9 @@
-use Rattle.std.proofs.Common.{◌∙◌, ◌≡◌, ap, sym, ◌++◌, ◌∷◌, ◌+◌, List, true, drop, get_or}
+use Rattle.std.proofs.Common.{◌∙◌, ◌≡◌, ap, sym, ◌∷◌, ◌+◌, List, true, drop}
 use Rattle.std.proofs.lemmas.List.{drop_more}
-use Rattle.lps_terms.specs.declared.atom.Atom.{Atom}
 use Rattle.lps_terms.specs.declared.statement.Statement.{Statement}
 use Rattle.lps_model.specs.Program.{initial_in}
-use Rattle.lps_facts.specs.Facts.{TrailedSet, with_facts}
-use Rattle.lps_cycle.proofs.Initial.{initial, nothing, with_more}
+use Rattle.lps_facts.specs.Facts.{with_facts}
+use Rattle.lps_cycle.proofs.Initial.{initial, with_more}
 use Rattle.lps_cycle.proofs.engine.initial_facts.Goals as goal
 
 pub loop-statement-preserved : goal.loop-statement-preserved

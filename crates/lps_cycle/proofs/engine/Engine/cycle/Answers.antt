@@ -1,4 +1,4 @@
-use Rattle.std.proofs.Common.{◌∙◌, ◌≡◌, ◌≤◌, ◌<◌, ◌+◌, ◌++◌, ◌∷◌, ap, sym, subst, refl, List, [], length}
+use Rattle.std.proofs.Common.{◌<◌, ◌+◌, ◌++◌, ◌∷◌, sym, subst, refl, List, []}
 use Rattle.std.specs.List.{AllByRecursion}
 use Rattle.lps_terms.specs.declared.atom.Atom.{Atom}
 use Rattle.lps_model.specs.declared.cycle.Pick.{Pick}

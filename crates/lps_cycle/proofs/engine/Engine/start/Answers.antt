@@ -1,12 +1,11 @@
-use Rattle.std.proofs.Common.{◌≡◌, ◌≤◌, ◌∙◌, ap, sym, subst, refl, arith, List, [], true}
-use Rattle.lps_terms.specs.declared.atom.Atom.{Atom}
+use Rattle.std.proofs.Common.{◌≡◌, ◌∙◌, ap, sym, subst, arith, List, [], true}
 use Rattle.lps_terms.specs.declared.statement.Statement.{Statement}
 use Rattle.lps_terms.specs.declared.text.Text.{Text}
-use Rattle.lps_model.specs.Run.{AreInitial, first_trace}
-use Rattle.lps_facts.specs.Facts.{TrailedSet, members, with_facts}
+use Rattle.lps_model.specs.Run.{first_trace}
+use Rattle.lps_facts.specs.Facts.{members, with_facts}
 use Rattle.lps_model.specs.Rules.{rules}
 use Rattle.lps_trial.specs.Trial.{IsTrial, TrialState}
-use Rattle.lps_cycle.specs.Engine.{EngineState, Stands}
+use Rattle.lps_cycle.specs.Engine.{Stands}
 use Rattle.lps_cycle.proofs.Initial.{initial, initial_exact, initial_are_fluents, nothing}
 use Rattle.lps_cycle.proofs.Runs.{stands_first}
 use Rattle.lps_cycle.proofs.engine.Engine.start.Goals as goal

@@ -1,34 +1,56 @@
-use Rattle.std.proofs.Common.{List, sym, subst}
-use Rattle.std.specs.Prelude.{true}
-use Rattle.std.specs.declared.alloc.Global.{Global}
-use Rattle.std.specs.declared.vec.Vec.{Vec}
+use Rattle.std.proofs.Common.{ℕ, List, subst, inr}
+use Rattle.std.specs.Prelude.{Option}
 use Rattle.std.proofs.lemmas.Result.{IfOk-weaker}
-use Rattle.lps_terms.specs.declared.values.Values.{Values}
 use Rattle.lps_model.specs.Clauses.{clauses}
-use Rattle.lps_facts.specs.Facts.{members, with_facts}
-use Rattle.lps_precond.specs.Cut.{Cut}
+use Rattle.lps_facts.specs.Facts.{members}
+use Rattle.lps_precond.specs.Cut.{Cut, cuts}
 use Rattle.lps_precond.specs.Judged.{IsLeast}
-use Rattle.lps_precond.specs.Rows.{AreAllFit, AreRowsOfAll, rows_in}
 use Rattle.lps_precond.proofs.Alike.{are_alike}
-use Rattle.lps_precond.proofs.Judging.{all_fit, judged}
+use Rattle.lps_precond.proofs.Judging.{judged, none_violated}
+use Rattle.lps_precond.proofs.Happened.{in_set}
+use Rattle.lps_precond.proofs.News.{same_news}
 use Rattle.lps_precond.proofs.denials.Denials.least_violated.Goals as goal
 
-pub first_met-requires-clause-ground : goal.first_met-requires-clause-ground
-first_met-requires-clause-ground c = λ a h. (c.requires.next.fluents.each a h).ground
+pub least_by-requires-clause-new : goal.least_by-requires-clause-new
+least_by-requires-clause-new c = in_set c.args.step.now.new.now c.new-new.result c.insert_all.new.self c.new-new.ensures.base c.new-new.ensures.changes c.in_ok-insert_all.ensures.all
 
-pub first_met-requires-clause-rows : goal.first_met-requires-clause-rows
-first_met-requires-clause-rows c =
-    subst (λ (found : List (Vec Values Global)). AreAllFit c.args.self.now (rows_in found)) (sym c.as_slice.ensures.value)
-    (all_fit c.args.program.now _ c.args.self.now (rows_in c.in_ok-rows.rows.items) c.in_ok-rows.ensures.rows)
+pub least_by-requires-clause-asked : goal.least_by-requires-clause-asked
+least_by-requires-clause-asked c =
+    let step = c.args.step.now in
+    let same = in_set step.new.now c.new-new.result c.insert_all.new.self c.new-new.ensures.base c.new-new.ensures.changes c.in_ok-insert_all.ensures.all in
+    record {
+      ground = record {
+        events_are = λ a h. (c.requires.events.each a ((c.requires.happened a).0 h)).ground;
+        before_are = λ a h. (c.requires.state.each a h).ground;
+        after_are = λ a h. (c.requires.next.fluents.each a h).ground;
+      };
+      new_ground = λ a h. (c.requires.events.each a ((c.requires.happened a).0 ((c.requires.news.split a).1 (inr ((same a).0 h))))).ground;
+      news = same_news c.args.program.now step.new.now (members c.insert_all.new.self) (members step.happened.now) (members step.before.now) (members step.after.now) step.is_changed same c.requires.news;
+    }
 
 pub returns-clause-judged : goal.returns-clause-judged
 returns-clause-judged c =
-    let before = members (with_facts true c.args.events.now c.args.facts.now) in
-    let after = members c.args.next.now in
-    let rows = subst (λ (found : List (Vec Values Global)). AreRowsOfAll c.args.program.now before c.args.self.now (rows_in found)) (sym c.as_slice.ensures.value) c.in_ok-rows.ensures.rows in
-    IfOk-weaker c.first_met.result _ _
+    let step = c.args.step.now in
+    let happened = members step.happened.now in
+    let before = members step.before.now in
+    let after = members step.after.now in
+    IfOk-weaker c.least_by.result _ _
     (λ found least level levels trace state.
-    judged c.args.program.now c.lawful.ensures.accepted c.lawful.ensures.formed level trace c.args.events.now before after
-    (are_alike c.args.program.now c.lawful.ensures.accepted level levels trace c.args.events.now c.args.facts.now after c.requires.state c.requires.events c.requires.next state)
-    found (subst (λ (denials : List Cut). IsLeast (clauses c.args.program.now) before after level denials found) c.requires.denials (least before rows level levels)))
-    c.first_met.ensures
+    judged c.args.program.now c.lawful.ensures.accepted c.lawful.ensures.formed level trace step.events.now happened before after
+    (are_alike c.args.program.now c.lawful.ensures.accepted level levels trace step.events.now happened before after c.requires.state c.requires.happened c.requires.next state)
+    found (subst (λ (denials : List Cut). IsLeast (clauses c.args.program.now) happened before after level denials found) c.requires.denials (least level levels)))
+    c.least_by.ensures
+
+pub returns-clause-allowed : goal.returns-clause-allowed
+returns-clause-allowed c =
+    let program = clauses c.args.program.now in
+    let step = c.args.step.now in
+    let happened = members step.happened.now in
+    let before = members step.before.now in
+    let after = members step.after.now in
+    IfOk-weaker c.least_by.result _ _
+    (λ found least none level levels.
+    let of_text = subst (λ (denials : List Cut). IsLeast program happened before after level denials found) c.requires.denials (least level levels) in
+    none_violated program happened before after level (cuts c.args.program.now)
+    (subst (λ (number : Option ℕ). IsLeast program happened before after level (cuts c.args.program.now) number) none of_text))
+    c.least_by.ensures

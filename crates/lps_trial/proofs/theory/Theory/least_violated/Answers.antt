@@ -1,6 +1,12 @@
-use Rattle.std.proofs.Common.{◌∙◌, ap, refl}
-use Rattle.lps_precond.specs.Cut.{cuts}
+use Rattle.std.proofs.Common.{◌≡◌, subst, None}
+use Rattle.std.specs.Prelude.{IfOk}
+use Rattle.lps_terms.specs.declared.text.Text.{Text}
+use Rattle.lps_facts.specs.Facts.{members}
+use Rattle.lps_precond.specs.Stages.{ViolateNone}
 use Rattle.lps_trial.proofs.theory.Theory.least_violated.Goals as goal
 
-pub returns-then-not-concern-clause-judged : goal.returns-then-not-concern-clause-judged
-returns-then-not-concern-clause-judged c = λ level levels trace state. c.if-not-concern.ensures c.args.self.now (c.self.invariant.1 ∙ ap cuts c.self.view_is) refl level trace
+pub returns-clause-allowed : goal.returns-clause-allowed
+returns-clause-allowed c =
+    let step = c.args.step.now in
+    subst (λ (text : Text). IfOk c.least_violated.result (λ found. found ≡ None → ViolateNone text (members step.happened.now) (members step.before.now) (members step.after.now))) c.self.view_is
+    c.least_violated.ensures.allowed

@@ -1,27 +1,20 @@
-use Rattle.std.proofs.Common.{List, sym, subst, ap, ◌∙◌, ◌++◌}
-use Rattle.std.specs.Prelude.{IfOk}
+use Rattle.std.proofs.Common.{List, subst}
 use Rattle.std.proofs.lemmas.Result.{IfOk-weaker}
 use Rattle.lps_terms.specs.declared.atom.Atom.{Atom}
 use Rattle.lps_facts.specs.Facts.{TrailedSet, members}
 use Rattle.lps_precond.specs.Judged.{IsJudged}
-use Rattle.lps_trial.specs.Trial.{InState, IsLonger, IsTrial, TrialState}
+use Rattle.lps_trial.specs.Trial.{InState}
 use Rattle.lps_trial.proofs.Trials.{on_ok}
 use Rattle.lps_trial.proofs.trial.Trial.tried.Goals as goal
-
-pub returns-clause-trial : goal.returns-clause-trial
-returns-clause-trial c = on_ok c.least_violated.result _ (subst (IsTrial c.args.theory.now) (sym c.least_violated.ensures.same) c.in_ok-extend.ensures.trial)
 
 pub returns-clause-judged : goal.returns-clause-judged
 returns-clause-judged c =
     let text = c.args.theory.now in
     IfOk-weaker c.least_violated.result _ _
     (λ found judged.
-    subst (λ (es : List Atom). InState text (members c.args.self.now.state) (λ level trace. IsJudged text level trace es found)) c.in_ok-extend.ensures.events
+    subst (λ (es : List Atom). InState text (members c.args.self.now.state) (λ level trace. IsJudged text level trace es found)) c.in_ok-is_changed.ensures.events
     (subst (λ (f : TrailedSet). InState text (members f) (λ level trace. IsJudged text level trace c.extend.new.self.events found)) c.extend.ensures.longer.state judged))
     c.least_violated.ensures.judged
 
 pub returns-clause-events : goal.returns-clause-events
-returns-clause-events c = on_ok c.least_violated.result _ (ap (λ (t : TrialState). t.events) c.least_violated.ensures.same ∙ c.in_ok-extend.ensures.events)
-
-pub returns-clause-longer : goal.returns-clause-longer
-returns-clause-longer c = subst (IsLonger c.args.self.now) (sym c.least_violated.ensures.same) c.extend.ensures.longer
+returns-clause-events c = on_ok c.least_violated.result _ c.in_ok-is_changed.ensures.events

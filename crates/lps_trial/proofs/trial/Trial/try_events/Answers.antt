@@ -1,5 +1,5 @@
-use Rattle.std.proofs.Common.{List, sym, subst, ap, ◌∙◌, Some, None}
-use Rattle.lps_trial.specs.Trial.{IsLonger, IsMoment, IsTrial, Moment, TrialState, back_at}
+use Rattle.std.proofs.Common.{sym, subst, ap, ◌∙◌}
+use Rattle.lps_trial.specs.Trial.{IsLonger, IsMoment, IsTrial, Moment, back_at}
 use Rattle.lps_trial.proofs.Trials.{is_moment, longer_itself, taken_back}
 use Rattle.lps_trial.proofs.trial.Trial.try_events.Goals as goal
 

@@ -7,3 +7,6 @@ undo_to-requires c = record { mark = omega (arith, c.requires.next, ap (λ (t : 
 
 pub undo_to-requires-2 : goal.undo_to-requires-2
 undo_to-requires-2 c = record { mark = omega (arith, c.requires.begun, ap (λ (t : TrialState). length t.begun.changes) c.self.view_is, ap (λ (m : Moment). m.begun) c.mark.view_is) }
+
+pub undo_to-requires-3 : goal.undo_to-requires-3
+undo_to-requires-3 c = record { mark = omega (arith, c.requires.happened, ap (λ (t : TrialState). length t.happened.changes) c.self.view_is, ap (λ (m : Moment). m.happened) c.mark.view_is) }

@@ -1,0 +1,11 @@
+use Rattle.std.proofs.Common.{ℕ, List, take, map}
+use Rattle.lps_facts.specs.Facts.{members}
+use Rattle.lps_model.specs.Clauses.{clauses}
+use Rattle.lps_derivation.specs.Levels.{AreLevels}
+use Rattle.lps_precond.specs.Stages.{HasOne, IsLeft}
+use Rattle.lps_precond.proofs.denial.Denial.is_left_by_one.Given as goal
+
+-- none of the rows so far leaves both sides met
+abbrev pub invariant-loop-row : goal.invariant-loop-row
+invariant-loop-row l = (level : List ℕ → ℕ) → AreLevels (clauses l.program) level →
+    HasOne (IsLeft (clauses l.program) (members l.step.before.now) (members l.step.after.now) level l.self) (map (λ v. v.0) (take l.row-index l.rows)) → ⊥

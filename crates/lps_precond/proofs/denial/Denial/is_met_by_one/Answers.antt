@@ -1,9 +1,0 @@
-use Rattle.lps_facts.specs.Facts.{members}
-use Rattle.lps_model.specs.Clauses.{clauses}
-use Rattle.lps_precond.proofs.Judging.{no_more_leave}
-use Rattle.lps_precond.proofs.denial.Denial.is_met_by_one.Goals as goal
-
-pub loop-row-preserved : goal.loop-row-preserved
-loop-row-preserved c = λ level levels.
-    no_more_leave (clauses c.args.program.now) (members c.args.facts.now) level c.args.self.now c.args.rows.now c.loop-row.row-index c.row-item.result c.as_slice.result.now c.loop-row-test.true c.row-item.is c.as_slice.ensures
-    c.in_ok-is_met_by.field-0 c.if-branch.false (c.in_ok-is_met_by.ensures level levels) (c.loop-row.invariant level levels)
