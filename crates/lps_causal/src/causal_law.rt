@@ -4,7 +4,7 @@ ghost use Rattle.lps_model.specs.VariableLists.{atom_vars, cond_vars};
 ghost use Rattle.lps_causal.specs.Laws.{IsCounted, law_of, positive};
 
 use lps_solve::above_conds;
-use lps_terms::{Atom, Cond, Lit, copy_atom, copy_built, copy_lit};
+use lps_terms::{Atom, Cond, Lit, copy_atom, copy_conds};
 use sqlite_items::Items;
 use std::alloc::{AllocError, Global};
 
@@ -41,25 +41,6 @@ pub(crate) fn copy_law(
         conds,
         variables,
     })
-}
-
-fn copy_conds(alloc: Global, conds: &[Cond]) -> Result<Items<Cond>, AllocError>
-    ensures { IfOk result (λ copies. copies ≡ conds.now) }
-{
-    let mut copies = Items::new(alloc);
-    for cond in conds {
-        copies.push(copy_cond(alloc, cond)?)?;
-    }
-    Ok(copies)
-}
-
-fn copy_cond(alloc: Global, cond: &Cond) -> Result<Cond, AllocError>
-    ensures { IfOk result (λ copy. copy ≡ cond.now) }
-{
-    match cond {
-        Cond::Lit(lit) => Ok(Cond::Lit(copy_lit(alloc, lit)?)),
-        Cond::Built(built) => Ok(Cond::Built(copy_built(alloc, built)?)),
-    }
 }
 
 /// A number above those of the variables of two atoms and of conditions, where it is in range.

@@ -1,10 +1,6 @@
 -- The clauses of a text as a search has them, and which of them a goal is taken to.
-use Rattle.std.specs.Prelude.{ℕ, ◌≡◌, ◌<◌, ◌++◌, ◌∷◌, IsTrue, List, [], if◌then◌else◌, Option, None, Some, length, slice_index_or}
+use Rattle.std.specs.Prelude.{ℕ, ◌≡◌, ◌<◌, ◌++◌, IsTrue, List, [], length, slice_index_or}
 use Rattle.std.specs.List.{AllByRecursion, flat_map}
-use Rattle.std.specs.Map.{lookup}
-use Rattle.std.specs.Str.{bytes_eq}
-use Rattle.std.specs.declared.alloc.Global.{Global}
-use Rattle.std.specs.declared.vec.Vec.{Vec}
 use Rattle.lps_terms.specs.declared.atom.Atom.{Atom}
 use Rattle.lps_terms.specs.declared.text.Text.{Text}
 use Rattle.lps_model.specs.Clauses.{Clause, clauses}
@@ -35,18 +31,3 @@ IsPlaceFor program goal i = (i < length program) × IsTrue (may_match goal (clau
 -- Each variable of an entry is one of those that it counts.
 abbrev pub AreCounted : List Entry → Type 0
 AreCounted entries = AllByRecursion (λ entry. AllByRecursion (λ v. v < entry.variables) (clause_vars (clause_of entry))) entries
-
--- ---- places by name, for tables of other statements
-
--- the places that a list has, or none
-abbrev pub places_or_none : Option (Vec ℕ Global) → List ℕ
-places_or_none None = []
-places_or_none (Some places) = places.items
-
--- the places that a table has for a name
-abbrev pub places_of : List (List ℕ × Vec ℕ Global) → List ℕ → List ℕ
-places_of table name = places_or_none (lookup (bytes_eq name) table)
-
--- the new table has this place more for this name
-abbrev pub IsWithPlace : List ℕ → ℕ → List (List ℕ × Vec ℕ Global) → List (List ℕ × Vec ℕ Global) → Type 0
-IsWithPlace name place old new = (other : List ℕ) → places_of new other ≡ (if bytes_eq other name then (places_of old other ++ place ∷ []) else places_of old other)

@@ -5,9 +5,8 @@ ghost use Rattle.lps_model.specs.Clauses.{clause_in, clauses};
 ghost use Rattle.lps_solve.specs.Table.{clause_at, clause_of, clause_vars};
 
 use crate::clause::Clause;
-use crate::copy::copy_conds;
 use crate::variables::{above_conds, above_terms};
-use lps_terms::{Atom, Body, Cond, Text, copy_atom};
+use lps_terms::{Atom, Body, Cond, Text, copy_atom, copy_conds};
 use std::alloc::{AllocError, Global};
 use std::marker::Model;
 

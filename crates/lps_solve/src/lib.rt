@@ -29,7 +29,6 @@ mod answer;
 mod built;
 mod clause;
 mod clauses;
-mod copy;
 mod found;
 mod ground;
 mod instance;

@@ -2,6 +2,7 @@ ghost use Rattle.std.specs.Prelude.{◌≡◌, IfOk};
 
 use crate::atom::Atom;
 use crate::built::Built;
+use crate::cond::Cond;
 use crate::expr::Expr;
 use crate::item::Item;
 use crate::lit::Lit;
@@ -55,6 +56,27 @@ pub fn copy_item(alloc: Global, item: &Item) -> Result<Item, AllocError>
         Item::Built(built) => Ok(Item::Built(copy_built(alloc, built)?)),
         Item::Span(atom, from, to) => Ok(Item::Span(copy_atom(alloc, atom)?, *from, *to)),
         Item::Con(con) => Ok(Item::Con(*con)),
+    }
+}
+
+/// Conditions equal to these.
+pub fn copy_conds(alloc: Global, conds: &[Cond]) -> Result<Items<Cond>, AllocError>
+    ensures { IfOk result (λ copies. copies ≡ conds.now) }
+{
+    let mut copies = Vec::new(alloc);
+    for cond in conds {
+        copies.push(copy_cond(alloc, cond)?)?;
+    }
+    Ok(Items::from_vec(copies))
+}
+
+/// A condition equal to this one.
+fn copy_cond(alloc: Global, cond: &Cond) -> Result<Cond, AllocError>
+    ensures { IfOk result (λ copy. copy ≡ cond.now) }
+{
+    match cond {
+        Cond::Lit(lit) => Ok(Cond::Lit(copy_lit(alloc, lit)?)),
+        Cond::Built(built) => Ok(Cond::Built(copy_built(alloc, built)?)),
     }
 }
 

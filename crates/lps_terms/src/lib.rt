@@ -59,7 +59,7 @@ pub use built::Built;
 pub use compare::{order, order_atoms};
 pub use con::Con;
 pub use cond::Cond;
-pub use copy::{copy_atom, copy_built, copy_item, copy_lit, copy_term};
+pub use copy::{copy_atom, copy_built, copy_conds, copy_item, copy_lit, copy_term};
 pub use count::{atom_symbols, symbols};
 pub use decl::Decl;
 pub use effects::Effects;
