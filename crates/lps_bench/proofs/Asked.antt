@@ -1,11 +1,10 @@
 -- What a search asks for, from tests on facts and variables.
-use Rattle.std.proofs.Common.{ℕ, Bool, true, ◌≡◌, ◌+◌, ◌<◌, List, [], ◌∷◌, refl, sym, ap, subst, ◌∙◌, arith, inl, inr}
+use Rattle.std.proofs.Common.{ℕ, true, ◌≡◌, ◌+◌, ◌<◌, List, [], ◌∷◌, sym, subst, arith, inl, inr}
 use Rattle.std.specs.Prelude.{◌⊎◌, Contains}
 use Rattle.std.specs.List.{AllByRecursion, list_all}
 use Rattle.lps_terms.specs.declared.atom.Atom.{Atom}
 use Rattle.lps_model.proofs.Elements.{first_or_later, nothing_contained}
 use Rattle.lps_derivation.specs.Ground.{is_ground}
-use Rattle.lps_unify.specs.Bindings.{TrailedBindings, count_of}
 use Rattle.lps_solve.specs.Met.{AreGround}
 use Rattle.lps_solve.proofs.Grounds.{first_of_two, second_of}
 

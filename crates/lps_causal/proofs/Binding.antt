@@ -1,10 +1,9 @@
 -- Bindings under which the event of a law is an event: its variables have ground values.
-use Rattle.std.proofs.Common.{ℕ, Bool, true, false, ◌≡◌, ◌+◌, ◌<◌, ◌≤◌, arith, List, [], ◌∷◌, ◌++◌, map, length, refl, sym, ap, ◌∙◌, subst}
-use Rattle.std.specs.Prelude.{◌↔◌, ◌&&◌, IsTrue, Contains, None}
-use Rattle.std.specs.List.{AllByRecursion, flat_map, list_all}
+use Rattle.std.proofs.Common.{ℕ, Bool, true, false, ◌≡◌, ◌+◌, ◌<◌, ◌≤◌, arith, List, [], ◌∷◌, map, refl, sym, ap, ◌∙◌, subst}
+use Rattle.std.specs.Prelude.{◌↔◌, IsTrue, Contains, None}
+use Rattle.std.specs.List.{AllByRecursion, list_all}
 use Rattle.lps_terms.specs.declared.body.Body.{Body}
 use Rattle.lps_terms.specs.declared.body.Body.TheVariants as b
-use Rattle.lps_terms.specs.declared.cond.Cond.{Cond}
 use Rattle.lps_terms.specs.declared.decl.Decl.{Decl}
 use Rattle.lps_terms.specs.declared.statement.Statement.{Statement}
 use Rattle.lps_terms.specs.declared.term.Term.{Term}
@@ -15,7 +14,7 @@ use Rattle.lps_terms.specs.Put.{put, put-App, put-Var}
 use Rattle.lps_model.specs.Acceptance.{IsAccepted}
 use Rattle.lps_model.specs.Known.{body_unknown, learnt, scope_at}
 use Rattle.lps_model.specs.Program.{Law, declarations, laws}
-use Rattle.lps_model.specs.VariableLists.{args_vars, atom_vars, cond_vars, term_vars}
+use Rattle.lps_model.specs.VariableLists.{args_vars, atom_vars, term_vars}
 use Rattle.lps_model.proofs.Stated.{statement_known}
 use Rattle.lps_derivation.specs.Ground.{is_ground, is_ground-App}
 use Rattle.lps_unify.specs.Bindings.{IsLawful, Solves, SolvesAll, TrailedBindings, count_of, standing}

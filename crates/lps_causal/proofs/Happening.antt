@@ -1,35 +1,30 @@
--- What events do not change: in a set of fluents together with events, exactly the events are true among the events, and all
--- else is true where it is over the fluents alone.
-use Rattle.std.proofs.Common.{ℕ, zero, suc, Bool, true, false, ◌≡◌, List, [], ◌∷◌, refl, sym, ap, ◌∙◌, inl, inr}
-use Rattle.std.specs.Prelude.{◌⊎◌, ◌↔◌, Contains, Option, Some, None}
-use Rattle.std.specs.List.{AllByRecursion}
+-- What acceptance gives of events and fluents: no clause has an event in its head, timeless predicates are true alike over any
+-- fluents, and what a law causes, and so what holds in a state, is a fluent.
+use Rattle.std.proofs.Common.{ℕ, zero, suc, Bool, true, false, ◌≡◌, List, refl, sym, ap, ◌∙◌, inl, inr}
+use Rattle.std.specs.Prelude.{◌↔◌, Contains, Option, Some, None}
 use Rattle.lps_terms.specs.declared.atom.Atom.{Atom}
-use Rattle.lps_terms.specs.declared.cond.Cond.{Cond}
 use Rattle.lps_terms.specs.declared.cond.Cond.TheVariants as c
 use Rattle.lps_terms.specs.declared.kind.Kind.{Kind}
 use Rattle.lps_terms.specs.declared.kind.Kind.TheVariants as k
-use Rattle.lps_terms.specs.declared.lit.Lit.{Lit}
 use Rattle.lps_terms.specs.declared.text.Text.{Text}
 use Rattle.lps_values.specs.Truth.{is_true}
-use Rattle.lps_model.specs.declared.place.Place.TheVariants.{Condition, Effect, Head, Initial, TimelessCondition, Trigger}
+use Rattle.lps_model.specs.declared.place.Place.TheVariants.{Effect, Head, Initial, TimelessCondition}
 use Rattle.lps_model.specs.declared.trace.Trace.{Trace}
 use Rattle.lps_model.specs.Acceptance.{IsAccepted}
 use Rattle.lps_model.specs.KindRefusals.{may_stand}
 use Rattle.lps_model.specs.Occurrences.{place_under}
 use Rattle.lps_model.specs.Order.{happens}
-use Rattle.lps_model.specs.Program.{Law, laws}
+use Rattle.lps_model.specs.Program.{Law}
 use Rattle.lps_model.specs.Run.{AreInitial}
-use Rattle.lps_model.proofs.Elements.{first_is_contained, later_is_contained}
 use Rattle.lps_model.specs.Clauses.{clauses}
-use Rattle.lps_derivation.specs.Derivation.{IsMet, of_fact}
-use Rattle.lps_derivation.specs.Laws.{Passes, IsDerivedFrom}
+use Rattle.lps_derivation.specs.Derivation.{of_fact}
+use Rattle.lps_derivation.specs.Laws.{Passes}
 use Rattle.lps_derivation.specs.Levels.{AreClosed, IsDefined}
 use Rattle.lps_derivation.proofs.Reach.{same_reached}
 use Rattle.lps_derivation.proofs.Trees.{only_fact}
 use Rattle.lps_meaning.specs.Holds.{Causes, Holds, IsTrueOver}
 use Rattle.lps_model.specs.Rules.{kind_of}
-use Rattle.lps_meaning.proofs.Persistence.{agrees_same, start_law, update_law}
-use Rattle.lps_causal.specs.Names.{AreEvents, AreFluents}
+use Rattle.lps_meaning.proofs.Persistence.{start_law, update_law}
 use Rattle.lps_causal.proofs.Placed.{condition_kind, fluent_kind, head_kind, initial_kind}
 
 -- ---- kinds
@@ -46,34 +41,17 @@ abbrev pub is_timeless : Option Kind → Bool
 is_timeless (Some k.Timeless) = true
 is_timeless _ = false
 
-of_condition : (kind : Kind) → may_stand Condition kind ≡ true → is_condition (Some kind) ≡ true
-of_condition k.Fluent h = refl
-of_condition k.Derived h = refl
-of_condition k.Timeless h = refl
-of_condition k.Event h = absurd (cc)
-of_condition k.Action h = absurd (cc)
-of_condition k.Macro h = absurd (cc)
-
-of_timeless : (kind : Kind) → may_stand TimelessCondition kind ≡ true → (is_condition (Some kind) ≡ true) × (is_timeless (Some kind) ≡ true)
-of_timeless k.Timeless h = (refl, refl)
+of_timeless : (kind : Kind) → may_stand TimelessCondition kind ≡ true → is_timeless (Some kind) ≡ true
+of_timeless k.Timeless h = refl
 of_timeless k.Fluent h = absurd (cc)
 of_timeless k.Derived h = absurd (cc)
 of_timeless k.Event h = absurd (cc)
 of_timeless k.Action h = absurd (cc)
 of_timeless k.Macro h = absurd (cc)
 
-of_clause : (head : Option Kind) (kind : Kind) → may_stand (place_under head) kind ≡ true → is_condition (Some kind) ≡ true
-of_clause None kind h = of_condition kind h
-of_clause (Some k.Timeless) kind h = (of_timeless kind h).0
-of_clause (Some k.Fluent) kind h = of_condition kind h
-of_clause (Some k.Derived) kind h = of_condition kind h
-of_clause (Some k.Event) kind h = of_condition kind h
-of_clause (Some k.Action) kind h = of_condition kind h
-of_clause (Some k.Macro) kind h = of_condition kind h
-
 of_timeless_clause : (head : Option Kind) (kind : Kind) → is_timeless head ≡ true → may_stand (place_under head) kind ≡ true → is_timeless (Some kind) ≡ true
 of_timeless_clause None kind t h = absurd (cc)
-of_timeless_clause (Some k.Timeless) kind t h = (of_timeless kind h).1
+of_timeless_clause (Some k.Timeless) kind t h = of_timeless kind h
 of_timeless_clause (Some k.Fluent) kind t h = absurd (cc)
 of_timeless_clause (Some k.Derived) kind t h = absurd (cc)
 of_timeless_clause (Some k.Event) kind t h = absurd (cc)
@@ -104,25 +82,8 @@ only_initial k.Event h = absurd (cc)
 only_initial k.Action h = absurd (cc)
 only_initial k.Macro h = absurd (cc)
 
--- what happens is no fluent, and no condition is made of it
-pub not_both : (kind : Option Kind) → happens kind ≡ true → is_condition kind ≡ true → ⊥
-not_both None e h = cc
-not_both (Some k.Fluent) e h = cc
-not_both (Some k.Derived) e h = cc
-not_both (Some k.Timeless) e h = cc
-not_both (Some k.Event) e h = cc
-not_both (Some k.Action) e h = cc
-not_both (Some k.Macro) e h = cc
-
 module _ (text : Text) (accepted : IsAccepted text) where
   -- ---- names that clauses do not leave
-
-  conditions_are_closed : AreClosed (clauses text) (λ name. is_condition (kind_of text name))
-  conditions_are_closed = record {
-    calls = λ clause l at among named.
-        let found = condition_kind text accepted clause l at among in
-        ap is_condition found.is ∙ of_clause (kind_of text clause.head.name) found.kind found.may;
-  }
 
   timeless_are_closed : AreClosed (clauses text) (λ name. is_timeless (kind_of text name))
   timeless_are_closed = record {
@@ -143,31 +104,6 @@ module _ (text : Text) (accepted : IsAccepted text) where
     (λ tree. only_fact (Passes is_true) (clauses text) IsFact tree (not_defined a.name happening)),
     (λ h. of_fact h),
   )
-
-  -- ---- fluents and events in one set
-
-  module _ (facts events both : List Atom) (fluents : AreFluents text facts) (happening : AreEvents text events)
-      (mixed : (a : Atom) → Contains both a ↔ (Contains facts a ⊎ Contains events a)) (level : List ℕ → ℕ) where
-    event_among : (a : Atom) → happens (kind_of text a.name) ≡ true → Contains facts a ⊎ Contains events a → Contains events a
-    event_among a is (inl fact) = absurd (not_both (kind_of text a.name) is (ap is_condition (fluents.each a fact).kind))
-    event_among a is (inr event) = event
-
-    fact_among : (a : Atom) → is_condition (kind_of text a.name) ≡ true → Contains facts a ⊎ Contains events a → Contains facts a
-    fact_among a is (inl fact) = fact
-    fact_among a is (inr event) = absurd (not_both (kind_of text a.name) (happening.each a event).kind is)
-
-    -- of the events and actions exactly the events of the set are true
-    pub true_events : (a : Atom) → happens (kind_of text a.name) ≡ true → IsDerivedFrom is_true (clauses text) both level a ↔ Contains events a
-    true_events a is =
-        let fact = true_where_fact level (Contains both) a is in
-        ((λ h. event_among a is ((mixed a).0 (fact.0 h))), (λ h. fact.1 ((mixed a).1 (inr h))))
-
-    -- what conditions are made of is true where it is over the fluents alone
-    pub true_before : (a : Atom) → is_condition (kind_of text a.name) ≡ true →
-        IsDerivedFrom is_true (clauses text) both level a ↔ IsDerivedFrom is_true (clauses text) facts level a
-    true_before a is =
-        same_reached (Passes is_true) (clauses text) (λ name. is_condition (kind_of text name)) conditions_are_closed (Contains both) (Contains facts)
-        (λ b named. ((λ h. fact_among b named ((mixed b).0 h)), (λ h. (mixed b).1 (inl h)))) level a is
 
   -- ---- timeless predicates
 

@@ -1,6 +1,6 @@
 -- Events more in a cycle: what some events cause, and what more of them cause, is what all of them cause together. So effects
 -- that were asked for once are made on top of those before, where initiation wins over termination.
-use Rattle.std.proofs.Common.{ℕ, suc, Bool, true, false, ◌≡◌, List, [], ◌∷◌, ◌++◌, length, refl, sym, ap, subst, ◌∙◌, inl, inr}
+use Rattle.std.proofs.Common.{ℕ, suc, Bool, true, false, ◌≡◌, List, [], ◌++◌, length, refl, sym, subst, ◌∙◌, inl, inr}
 use Rattle.std.specs.Prelude.{◌⊎◌, ◌↔◌, ◌&&◌, ◌||◌, not, Contains}
 use Rattle.std.specs.List.Sorted.{IsStrictlySortedBy}
 use Rattle.std.proofs.lemmas.List.Elements.{Contains-append_cases, Contains-append_left, Contains-append_right}
@@ -10,11 +10,9 @@ use Rattle.lps_terms.specs.declared.text.Text.{Text}
 use Rattle.lps_terms.specs.Order.{atom_cmp}
 use Rattle.lps_facts.specs.Facts.{TrailedSet, is_among, members, with_effects, with_facts}
 use Rattle.lps_facts.proofs.Sequences.{members_with_effects}
-use Rattle.lps_model.specs.declared.cycle.Cycle.{Cycle}
-use Rattle.lps_model.specs.declared.trace.Trace.{Trace}
 use Rattle.lps_model.specs.Acceptance.{IsAccepted}
 use Rattle.lps_model.specs.Formed.{is_formed}
-use Rattle.lps_model.specs.Trace.{happens_in, then_cycle}
+use Rattle.lps_model.specs.Trace.{then_cycle}
 use Rattle.lps_model.proofs.Elements.{nothing_contained}
 use Rattle.lps_model.specs.Clauses.{clauses}
 use Rattle.lps_derivation.specs.Levels.{AreLevels}

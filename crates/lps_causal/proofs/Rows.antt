@@ -1,18 +1,16 @@
 -- The instances of the conditions of a law, once its event is bound to an event, tell exactly what the law gives for the event.
-use Rattle.std.proofs.Common.{ℕ, Bool, true, false, ◌≡◌, ◌+◌, ◌≤◌, ◌<◌, arith, List, [], ◌∷◌, map, refl, sym, ap, ◌∙◌, subst}
+use Rattle.std.proofs.Common.{ℕ, Bool, ◌≡◌, ◌+◌, ◌≤◌, ◌<◌, arith, List, [], ◌∷◌, map, sym, ap, ◌∙◌, subst}
 use Rattle.std.specs.Prelude.{◌↔◌, IsTrue, Contains, min}
-use Rattle.std.specs.List.{AllByRecursion}
 use Rattle.lps_terms.specs.declared.atom.Atom.{Atom}
 use Rattle.lps_terms.specs.declared.cond.Cond.{Cond}
 use Rattle.lps_terms.specs.declared.term.Term.{Term}
 use Rattle.lps_terms.specs.declared.values.Values.{Values}
-use Rattle.lps_terms.specs.Put.{put, put_atom}
+use Rattle.lps_terms.specs.Put.{put}
 use Rattle.lps_terms.specs.Symbols.{atom_symbols_of, symbols_of_all}
 use Rattle.lps_model.specs.Clauses.{Clause}
 use Rattle.lps_model.specs.Program.{Law}
 use Rattle.lps_model.proofs.Elements.{nothing_contained}
 use Rattle.lps_derivation.specs.Ground.{is_ground}
-use Rattle.lps_derivation.specs.Instances.{IsSmall, put_cond}
 use Rattle.lps_unify.specs.Bindings.{TrailedBindings}
 use Rattle.lps_solve.specs.Answers.{IsInstanceFor}
 use Rattle.lps_solve.specs.Found.{atom_of}

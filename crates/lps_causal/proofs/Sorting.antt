@@ -18,7 +18,6 @@ use Rattle.lps_terms.specs.Order.{atom_cmp, atom_eq}
 use Rattle.lps_terms.specs.OrderLaws.{atom_cmp-IsAntisymmetric, atom_cmp_total, atom_eq-decides}
 use Rattle.lps_facts.specs.Facts.{is_among}
 use Rattle.lps_solve.proofs.Facts.{among_contains, contains_among}
-use Rattle.lps_solve.proofs.Gaining.{default_free}
 
 -- ---- sorted, and each once
 

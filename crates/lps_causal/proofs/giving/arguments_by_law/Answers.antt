@@ -1,4 +1,4 @@
-use Rattle.std.proofs.Common.{ℕ, ◌≡◌, ◌∙◌, ◌<◌, ◌↔◌, List, length, map, sym, ap, subst, arith}
+use Rattle.std.proofs.Common.{ℕ, ◌∙◌, ◌<◌, ◌↔◌, List, map, sym, subst, arith}
 use Rattle.std.specs.Prelude.{Contains}
 use Rattle.std.specs.List.{AllByRecursion, flat_map}
 use Rattle.lps_terms.specs.declared.cond.Cond.{Cond}

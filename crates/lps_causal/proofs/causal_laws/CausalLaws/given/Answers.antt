@@ -1,4 +1,4 @@
-use Rattle.std.proofs.Common.{ℕ, Bool, List, [], get_or, sym, subst, arith, take}
+use Rattle.std.proofs.Common.{List, [], get_or, sym, subst, arith, take}
 use Rattle.std.specs.Prelude.{Contains}
 use Rattle.std.proofs.lemmas.List.Elements.{Contains-get_or}
 use Rattle.lps_terms.specs.declared.atom.Atom.{Atom}
