@@ -6,7 +6,6 @@ use Rattle.std.proofs.lemmas.Bool.{eqb-true}
 use Rattle.lps_terms.specs.declared.atom.Atom.{Atom}
 use Rattle.lps_terms.specs.declared.kind.Kind.{Kind}
 use Rattle.lps_terms.specs.declared.kind.Kind.TheVariants as k
-use Rattle.lps_terms.specs.declared.batch_kind.BatchKind.{BatchKind}
 use Rattle.lps_terms.specs.declared.batch_kind.BatchKind.TheVariants.{WrongArity}
 use Rattle.lps_terms.specs.declared.text.Text.{Text}
 use Rattle.lps_model.specs.declared.batch.Batch.{Batch}
@@ -20,7 +19,7 @@ use Rattle.lps_cycle.specs.Admission.{MayCome}
 use Rattle.lps_batches.specs.Lines.{IsPassed}
 use Rattle.lps_batches.specs.Stream.{Skipped}
 use Rattle.lps_batches.specs.Stream as stream
-use Rattle.lps_run.specs.Judged.{ArePassed, AreWhole, IsBatchOf, batch_fault, event_fault, events_fault, fault_by, fault_of_kind, number_fault}
+use Rattle.lps_run.specs.Judged.{ArePassed, IsBatchOf, batch_fault, event_fault, events_fault, fault_by, fault_of_kind, number_fault}
 use Rattle.lps_run.specs.Judged as judged
 
 -- ---- lines

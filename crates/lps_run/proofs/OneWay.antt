@@ -11,7 +11,7 @@ use Rattle.lps_batches.specs.LookAhead.{is_no_feed}
 use Rattle.lps_batches.specs.declared.batch_bad.BatchBad.{BatchBad}
 use Rattle.lps_batches.specs.Lines.{IsBatchLine, IsPassed}
 use Rattle.lps_batches.proofs.Read.{one_reading}
-use Rattle.lps_run.specs.Judged.{ArePassed, AreWhole, IsBatchOf, IsFaulty, IsFirstFaulty, IsMisfit, IsSound, batch_fault, ended}
+use Rattle.lps_run.specs.Judged.{ArePassed, IsBatchOf, IsFaulty, IsFirstFaulty, IsSound, batch_fault, ended}
 use Rattle.lps_run.specs.Judged as judged
 
 -- ---- lines of the same bytes

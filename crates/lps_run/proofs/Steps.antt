@@ -1,7 +1,6 @@
 -- From one line of a stream to the next, and to its end.
-use Rattle.std.proofs.Common.{◌≡◌, ℕ, suc, ◌+◌, ◌≤◌, List, [], ◌∷◌, ◌++◌, length, Option, Some, None, Result, Ok, Err, refl, sym, ap, subst, ◌∙◌, inl, inr, arith, append_assoc, append-nil, OnOk, OnErr, MatchResult}
+use Rattle.std.proofs.Common.{◌≡◌, ℕ, suc, ◌+◌, List, [], ◌∷◌, ◌++◌, length, Option, Some, None, Result, Ok, Err, refl, sym, ap, subst, ◌∙◌, inl, inr, arith, append_assoc, append-nil, OnOk, OnErr, MatchResult}
 use Rattle.std.specs.Prelude.{◌⊎◌, codes}
-use Rattle.std.specs.List.{AllByRecursion}
 use Rattle.std.proofs.lemmas.List.{length-map}
 use Rattle.lps_terms.specs.declared.atom.Atom.{Atom}
 use Rattle.lps_terms.specs.declared.batch_kind.BatchKind.{BatchKind}
@@ -18,19 +17,18 @@ use Rattle.lps_batches.specs.declared.batch_bad.BatchBad.{BatchBad}
 use Rattle.lps_batches.specs.Lines.{IsBadLine}
 use Rattle.lps_batches.specs.Stream.{Ahead, BeginsBad, MeetsBad, MeetsBadLast, MetBefore, NothingLeft, NothingWhole, Reader, TakesBatch, TakesLast}
 use Rattle.lps_batches.specs.Stream as reads
-use Rattle.lps_batches.proofs.Few.{batch_few}
 use Rattle.lps_outside.specs.Bytes.{IsFront, Appends, AppendsFront, Stream}
 use Rattle.lps_run.specs.declared.stream.Running.{Running}
 use Rattle.lps_run.specs.declared.stop.Stop.{Stop}
 use Rattle.lps_run.specs.declared.stop.Stop.TheVariants.{PrintFault}
 use Rattle.lps_cycle.specs.Engine.{EngineState, Stands}
-use Rattle.lps_run.specs.Judged.{AreWhole, HasFirst, IsBatchOf, IsFaulty, IsSound, batch_fault, ended}
+use Rattle.lps_run.specs.Judged.{AreWhole, HasFirst, IsBatchOf, batch_fault, ended}
 use Rattle.lps_run.specs.Judged as judged
 use Rattle.lps_outside.specs.Causes.{Rose}
 use Rattle.lps_run.specs.Stopping.{Counted, PrintsBlocks, PrintsRunFront, PrintsFront, Reported, EndsAtLimit, EndsAtLine, Stopped}
 use Rattle.lps_run.specs.Running.{Due, Made, Standing, Finished}
 use Rattle.lps_run.proofs.Feeds.{long_ends, no_whole}
-use Rattle.lps_run.specs.Reporting.{AreAllBlocks, block_of}
+use Rattle.lps_run.specs.Reporting.{block_of}
 use Rattle.lps_run.proofs.Judging.{batch_more, pass_more, skip_more}
 use Rattle.lps_run.proofs.Reports.{block_more, block_first, last_is_done, report_done}
 

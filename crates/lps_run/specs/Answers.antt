@@ -97,28 +97,14 @@ abbrev pub Caused : Answer → ℕ → ℕ → ℕ → ℕ → ℕ → ℕ → T
 Caused TextFault texts texts' reads reads' prints prints' = Rose texts texts' × (reads' ≡ reads) × (prints' ≡ prints)
 Caused EventFault texts texts' reads reads' prints prints' = (texts' ≡ texts) × Rose reads reads' × (prints' ≡ prints)
 Caused PrintFault texts texts' reads reads' prints prints' = (texts' ≡ texts) × (reads' ≡ reads) × Rose prints prints'
-Caused Done texts texts' reads reads' prints prints' = NoneRose texts texts' reads reads' prints prints'
-Caused Checked texts texts' reads reads' prints prints' = NoneRose texts texts' reads reads' prints prints'
-Caused (Usage kind) texts texts' reads reads' prints prints' = NoneRose texts texts' reads reads' prints prints'
-Caused (TextRefused reason) texts texts' reads reads' prints prints' = NoneRose texts texts' reads reads' prints prints'
-Caused (BatchRefused line kind) texts texts' reads reads' prints prints' = NoneRose texts texts' reads reads' prints prints'
-Caused CycleLimit texts texts' reads reads' prints prints' = NoneRose texts texts' reads reads' prints prints'
-Caused StreamLimit texts texts' reads reads' prints prints' = NoneRose texts texts' reads reads' prints prints'
-Caused NoMemory texts texts' reads reads' prints prints' = NoneRose texts texts' reads reads' prints prints'
+Caused other texts texts' reads reads' prints prints' = NoneRose texts texts' reads reads' prints prints'
 
 -- the answers for a text that was not read, or not accepted
 abbrev pub EndsBeforeRun : Answer → Type 0
 EndsBeforeRun (TextRefused reason) = Unit {0}
 EndsBeforeRun TextFault = Unit {0}
 EndsBeforeRun NoMemory = Unit {0}
-EndsBeforeRun Done = ⊥
-EndsBeforeRun (Usage kind) = ⊥
-EndsBeforeRun (BatchRefused line kind) = ⊥
-EndsBeforeRun Checked = ⊥
-EndsBeforeRun CycleLimit = ⊥
-EndsBeforeRun StreamLimit = ⊥
-EndsBeforeRun EventFault = ⊥
-EndsBeforeRun PrintFault = ⊥
+EndsBeforeRun other = ⊥
 
 -- why a text was not read, or not accepted
 abbrev pub RefusedAs : List ℕ → Answer → Type 0
@@ -133,25 +119,9 @@ abbrev pub IsSilent : Answer → Type 0
 IsSilent (Usage kind) = Unit {0}
 IsSilent (TextRefused reason) = Unit {0}
 IsSilent TextFault = Unit {0}
-IsSilent Done = ⊥
-IsSilent (BatchRefused line kind) = ⊥
-IsSilent Checked = ⊥
-IsSilent CycleLimit = ⊥
-IsSilent StreamLimit = ⊥
-IsSilent EventFault = ⊥
-IsSilent PrintFault = ⊥
-IsSilent NoMemory = ⊥
+IsSilent other = ⊥
 
 -- the answer is not about the words
 abbrev pub IsNoUsage : Answer → Type 0
 IsNoUsage (Usage kind) = ⊥
-IsNoUsage Done = Unit {0}
-IsNoUsage (TextRefused reason) = Unit {0}
-IsNoUsage (BatchRefused line kind) = Unit {0}
-IsNoUsage Checked = Unit {0}
-IsNoUsage CycleLimit = Unit {0}
-IsNoUsage StreamLimit = Unit {0}
-IsNoUsage TextFault = Unit {0}
-IsNoUsage EventFault = Unit {0}
-IsNoUsage PrintFault = Unit {0}
-IsNoUsage NoMemory = Unit {0}
+IsNoUsage other = Unit {0}

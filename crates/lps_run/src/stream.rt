@@ -1,5 +1,4 @@
 ghost use Rattle.std.specs.Prelude.{◌≡◌, ◌≤◌, ◌<◌, ◌+◌, ◌++◌, ◌∷◌, ◌^◌, [], List, ℕ, Option, Some, None, true, false, codes, length, IfOk, IfErr, OnOk, OnErr, MatchResult};
-ghost use Rattle.lps_terms.specs.declared.text.Text.{Text};
 ghost use Rattle.lps_facts.specs.Facts.{members};
 ghost use Rattle.lps_run.specs.Reporting.{block_of as block_text};
 ghost use Rattle.lps_model.specs.Rules.{rules};

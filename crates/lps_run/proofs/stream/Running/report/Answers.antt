@@ -1,7 +1,6 @@
-use Rattle.std.proofs.Common.{ℕ, Err, ◌∙◌, ◌≤◌, ◌+◌, ◌^◌, length, arith, subst, refl, None}
+use Rattle.std.proofs.Common.{ℕ, Err, ◌∙◌, ◌≤◌, ◌+◌, ◌^◌, length, arith, subst, None}
 use Rattle.std.proofs.lemmas.Result.{err_from_is_err_and, IfErr-at_err}
-use Rattle.lps_terms.specs.declared.text.Text.{Text}
-use Rattle.lps_run.specs.Stopping.{Counted, Stopped, StopsAtLine}
+use Rattle.lps_run.specs.Stopping.{Counted, StopsAtLine}
 use Rattle.lps_run.proofs.Steps.{last_counted, last_front, last_printed}
 use Rattle.lps_run.proofs.Pieces.{keeps_line}
 use Rattle.lps_run.proofs.stream.Running.report.Goals as goal
