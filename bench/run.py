@@ -1,5 +1,5 @@
 #!/usr/bin/env python3
-"""Measures the built program: cycles per second and peak memory over streams, and the time to read texts.
+"""Measures the built program: cycles per second and peak memory over streams, events of batches, and the time to read texts.
 
 Usage: bench/run.py [PROGRAM]    the program as built, by default that of crates/lps_prog
 
@@ -15,6 +15,9 @@ from pathlib import Path
 
 from measure import best
 
+# How many events the batches of a stream have together.
+EVENTS = 100_000
+
 
 def text_of(names):
     """A text of so many declared names: half of them fluents, half events, and two laws for each event."""
@@ -29,13 +32,14 @@ def text_of(names):
     return "\n".join(lines) + "\n"
 
 
-def write_stream(path, cycles, names):
-    """A stream of so many cycles, each with 0 to 5 events."""
+def write_stream(path, cycles, names, size=None):
+    """A stream of so many cycles, each with so many events, or with 0 to 5 where no size is given."""
     draw = random.Random(cycles)
     half = names // 2
     with open(path, "w") as out:
         for cycle in range(1, cycles + 1):
-            events = ", ".join(f"e{draw.randrange(half)}" for _ in range(draw.randrange(6)))
+            count = draw.randrange(6) if size is None else size
+            events = ", ".join(f"e{draw.randrange(half)}" for _ in range(count))
             out.write(f"{cycle}: {events}.\n")
 
 
@@ -52,6 +56,16 @@ def main():
                 seconds, memory = best(["run", text], stream)
                 per_cycle = max(seconds - start, 1e-6) / cycles
                 print(f"{names:<8} {cycles:<10} {seconds:<8.3f} {1 / per_cycle:<9.0f} {per_cycle * 1e6:<9.2f} {memory:.1f}")
+        print()
+        print("names    events a batch  us/event")
+        for names in (10, 10_000):
+            Path(text).write_text(text_of(names))
+            write_stream(stream, 0, names)
+            start, _ = best(["run", text], stream)
+            for size in (10, 100, 1_000):
+                write_stream(stream, EVENTS // size, names, size)
+                seconds, _ = best(["run", text], stream)
+                print(f"{names:<8} {size:<15} {max(seconds - start, 1e-6) / EVENTS * 1e6:.2f}")
         print()
         print("declared names    seconds to read    us/name")
         write_stream(stream, 0, 2)
