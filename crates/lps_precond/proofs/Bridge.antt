@@ -261,7 +261,7 @@ module _ (text : Text) (level : List ℕ → ℕ) (trace : Trace) (events happen
   abbrev early_count : ℕ
   early_count = count_early (second_in items) items
 
-  pub violated_to : Violates text level trace events items → IsViolated (clauses text) happened before after level (cut items)
+  pub violated_to : Violates text level trace events items → IsViolated (clauses text) happened before after level (cut text items)
   violated_to v =
       let small = all_unmapped (put_item v.values) IsSmallItem items v.small in
       let met = all_unmapped (put_item v.values) (IsMetBy text level trace events v.times) items v.met in
@@ -281,7 +281,7 @@ module _ (text : Text) (level : List ℕ → ℕ) (trace : Trace) (events happen
             (all_dropped P early_count items ground) (all_dropped Q early_count items small) (all_dropped R early_count items met);
       }
 
-  pub violated_from : IsViolated (clauses text) happened before after level (cut items) → Violates text level trace events items
+  pub violated_from : IsViolated (clauses text) happened before after level (cut text items) → Violates text level trace events items
   violated_from h =
       let s : ℕ → Term = settled h.values in
       let t : ℕ → ℕ = times_with (length trace.cycles) denial.second in

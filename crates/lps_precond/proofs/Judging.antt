@@ -47,12 +47,12 @@ module _ (text : Text) (accepted : IsAccepted text) (formed : is_formed text ≡
   number_to zero h = absurd (let no = h.1 in cc)
   number_to (suc n) h =
       let items : List Item = h.0 in
-      (cut items, numbered_map cut (denials text) n items h.1, violated_to text level trace events happened before after alike items (denial_is text accepted formed items (got_is_among (denials text) n items h.1)) h.2)
+      (cut text items, numbered_map (cut text) (denials text) n items h.1, violated_to text level trace events happened before after alike items (denial_is text accepted formed items (got_is_among (denials text) n items h.1)) h.2)
 
   number_from : (k : ℕ) → IsViolatedNumber (clauses text) happened before after level (cuts text) k → ViolatesNumber text level trace events k
   number_from zero h = absurd (let no = h.1 in cc)
   number_from (suc n) h =
-      let image = image_of cut (denials text) n h.0 h.1 in
+      let image = image_of (cut text) (denials text) n h.0 h.1 in
       let items : List Item = image.one in (
         items,
         image.at,

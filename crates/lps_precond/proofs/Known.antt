@@ -1,6 +1,6 @@
 -- Conditions stay well-moded where more is known, and in the end what is in them is known.
 use Rattle.std.proofs.Common.{ℕ, Bool, true, false, ◌≡◌, List, [], ◌∷◌, ◌++◌, refl, ap, ◌∙◌, arith}
-use Rattle.std.specs.Prelude.{◌&&◌, ◌||◌, nat_eq, Option, Some, None, if◌then◌else◌}
+use Rattle.std.specs.Prelude.{◌&&◌, ◌||◌, Contains, nat_eq, Option, Some, None, if◌then◌else◌}
 use Rattle.std.specs.List.{AllByRecursion, flat_map}
 use Rattle.std.specs.Option.{option_or}
 use Rattle.std.proofs.lemmas.Bool.Decides.{nat_tests}
@@ -10,6 +10,7 @@ use Rattle.lps_terms.specs.declared.cond.Cond.{Cond}
 use Rattle.lps_terms.specs.declared.cond.Cond.TheVariants as c
 use Rattle.lps_model.specs.Known.{Scope, are_known, built_needs, cond_needs, conds_unknown, is_known, learnt, lit_needs, same_needs, unknown_among, with_var, written}
 use Rattle.lps_model.specs.VariableLists.{cond_vars, expr_vars, term_vars}
+use Rattle.lps_meaning.proofs.Lists.{of_element}
 use Rattle.lps_solve.proofs.Moding.{neither_is}
 use Rattle.lps_solve.proofs.Sets.{all_learnt, each_known, one_known}
 use Rattle.lps_solve.proofs.Vars.{all_append, all_weaker}
@@ -170,3 +171,9 @@ module _ (scope : Scope) where
   -- and the variables of the conditions alone
   pub with_own : (known : List ℕ) (conds : List Cond) → conds_unknown scope [] known conds ≡ None → conds_unknown scope (vars_of conds) known conds ≡ None
   with_own known conds none = ends_in (vars_of conds) known conds none (all_in_order (IsIn (known_through known conds)) (flat_map cond_vars conds) (through_has known conds))
+
+  -- and some of these
+  pub with_some : (known : List ℕ) (conds : List Cond) → conds_unknown scope [] known conds ≡ None → (some : List ℕ) → AllByRecursion (Contains (flat_map cond_vars conds)) some → conds_unknown scope some known conds ≡ None
+  with_some known conds none some among =
+      ends_in some known conds none
+      (all_weaker (Contains (flat_map cond_vars conds)) (IsIn (known_through known conds)) (λ v at. of_element (IsIn (known_through known conds)) (flat_map cond_vars conds) v (through_has known conds) at) some among)

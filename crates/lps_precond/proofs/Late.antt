@@ -27,7 +27,7 @@ late_more denials i denial lt is old new more so_far place = (
     | inl before ↦ let found = (so_far place).0 before in (omega (arith, found.0), found.1)
     | inr this ↦ (
       omega (arith, this.0),
-      record { denial = denial; at = subst (λ k. slice_get denials k ≡ Some denial) (sym this.0) (got_item denials i denial denial lt is); has = this.1 },
+      record { denial = denial; at = subst (λ k. slice_get denials k ≡ Some denial) (sym this.0) (got_item denials i denial denial lt is); holds = this.1 },
     )
   ],
   λ h. (more place).1 (elim (under_or_same place i h.0) [
@@ -40,7 +40,7 @@ late_more denials i denial lt is old new more so_far place = (
     here late same none =
         let both : Some late.denial ≡ Some denial = sym late.at ∙ ap (slice_get denials) same ∙ got_item denials i denial denial lt is in
         let one : late.denial ≡ denial = cc in
-        late.has (ap (λ (d : Cut). d.back) one ∙ none)
+        late.holds (ap (λ (d : Cut). d.back) one ∙ none)
 
 pub late_all : (denials : List Cut) (count : ℕ) (late : List ℕ) → length denials ≤ count → AreLateUpTo denials count late → AreLate denials late
 late_all denials count late all are place = (

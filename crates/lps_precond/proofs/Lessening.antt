@@ -11,13 +11,13 @@ use Rattle.lps_precond.specs.Judged.{IsLeast, IsLessened, IsUpTo, IsViolatedNumb
 
 module _ (program : List Clause) (events before after : List Atom) (level : List ℕ → ℕ) (denials : List Cut) where
   -- what was found is at most the number of each that is violated
-  pub lessened_same : (P : ℕ → Type 0) (found : Option ℕ) → ((place : ℕ) → P place → IsViolatedNumber program events before after level denials (suc place) → IsUpTo found (suc place)) →
+  pub lessened_same : (P : ℕ → Type 0) (found : Option ℕ) → ((place : ℕ) → P place → IsUpTo found (suc place)) →
       IsLessened program events before after level denials P found found
   lessened_same P found each = record { truthful = λ h. h; kept = λ k h. h; each = each }
 
   -- fewer places
   pub lessened_for : (P Q : ℕ → Type 0) (old found : Option ℕ) → ((place : ℕ) → Q place → P place) → IsLessened program events before after level denials P old found → IsLessened program events before after level denials Q old found
-  lessened_for P Q old found among lessened = record { truthful = lessened.truthful; kept = lessened.kept; each = λ place at violated. lessened.each place (among place at) violated }
+  lessened_for P Q old found among lessened = record { truthful = lessened.truthful; kept = lessened.kept; each = λ place at. lessened.each place (among place at) }
 
   -- the places of either kind one after the other
   pub lessened_then : (P Q R : ℕ → Type 0) (one two three : Option ℕ) → ((place : ℕ) → R place → P place ⊎ Q place) → IsLessened program events before after level denials P one two →
@@ -25,7 +25,7 @@ module _ (program : List Clause) (events before after : List Atom) (level : List
   lessened_then P Q R one two three either first second = record {
     truthful = λ h. second.truthful (first.truthful h);
     kept = λ k h. second.kept k (first.kept k h);
-    each = λ place at violated. elim (either place at) [ inl old ↦ second.kept (suc place) (first.each place old violated) | inr new ↦ second.each place new violated ];
+    each = λ place at. elim (either place at) [ inl old ↦ second.kept (suc place) (first.each place old) | inr new ↦ second.each place new ];
   }
 
   -- what is found is the least number where each violated denial was asked
@@ -35,12 +35,12 @@ module _ (program : List Clause) (events before after : List Atom) (level : List
     where
       none : (k : ℕ) → IsViolatedNumber program events before after level denials k → ⊥
       none zero h = absurd (let no = h.1 in cc)
-      none (suc place) h = lessened.each place (all place h) h
+      none (suc place) h = lessened.each place (all place h)
   least_is P (Some number) all lessened = (lessened.truthful tt, none)
     where
       none : (k : ℕ) → k < number → IsViolatedNumber program events before after level denials k → ⊥
       none zero lt h = absurd (let no = h.1 in cc)
-      none (suc place) lt h = let most : number ≤ suc place = lessened.each place (all place h) h in omega arith
+      none (suc place) lt h = let most : number ≤ suc place = lessened.each place (all place h) in omega arith
 
 -- ---- one after the other
 

@@ -22,6 +22,7 @@ use Rattle.lps_model.proofs.Elements.{first_is_contained, first_or_later, later_
 use Rattle.lps_derivation.specs.Ground.{is_ground}
 use Rattle.lps_derivation.specs.Instances.{IsSmall}
 use Rattle.lps_derivation.specs.Levels.{AreLevels}
+use Rattle.lps_meaning.proofs.Lists.{of_element}
 use Rattle.lps_meaning.proofs.Occurrences.{Agree}
 use Rattle.lps_unify.specs.Bindings.{TrailedBindings, IsLawful, Solves, count_of, standing}
 use Rattle.lps_unify.specs.Unified.{AreWithin, JoinsAllOn}
@@ -38,7 +39,7 @@ use Rattle.lps_solve.proofs.Vars.{all_append, all_first, all_second, all_weaker,
 use Rattle.lps_precond.specs.declared.stage.Stage.{Stage}
 use Rattle.lps_precond.specs.declared.start.Start.{Start}
 use Rattle.lps_precond.specs.Cut.{Cut}
-use Rattle.lps_precond.specs.Stages.{AreRows, AreAsked, AreStages, HasOne, IsFit, IsLeft, IsMetFrom, IsReached, IsStage, IsStart, IsViolated, IsViolatedFrom, IsViolatedWith, vars_of, vars_with}
+use Rattle.lps_precond.specs.Stages.{AreRows, AreAsked, AreStages, HasOne, IsAnswered, IsFit, IsLeft, IsMetFrom, IsReached, IsStage, IsStart, IsViolated, IsViolatedFrom, IsViolatedWith, vars_of, vars_with}
 use Rattle.lps_precond.proofs.Variables.{HasGround, agree_in, all_as_written, all_in_order, fits_cond, ground_in_cond, row_of_agreeing, same_cond, with_all, without}
 
 -- ---- rows of values
@@ -245,17 +246,17 @@ map_contains (x ∷ rows) row at =
 
 module _ (P : List Term → Type 0) (rows : List Values) (i : ℕ) (row : Values) (terms : List Term) (lt : i < length rows) (is : row ≡ get_or rows i row) (same : terms ≡ row.0) where
   -- where the next row has not the property, none of one row more has it
-  pub no_more : (found : Bool) → found ≡ false → ((found ≡ true) ↔ P terms) → (HasOne P (map (λ v. v.0) (take i rows)) → ⊥) → HasOne P (map (λ v. v.0) (take (i + 1) rows)) → ⊥
+  pub no_more : (found : Bool) → found ≡ false → (P terms → found ≡ true) → (HasOne P (map (λ v. v.0) (take i rows)) → ⊥) → HasOne P (map (λ v. v.0) (take (i + 1) rows)) → ⊥
   no_more found off are none h =
       let more : map (λ v. v.0) (take (i + 1) rows) ≡ map (λ v. v.0) (take i rows) ++ row.0 ∷ [] = ap (map (λ v. v.0)) (take_more i rows row lt is) ∙ map-append (λ v. v.0) (take i rows) (row ∷ []) in
       elim (Contains-push_cases (map (λ v. v.0) (take i rows)) row.0 h.row (subst (λ (xs : List (List Term)). Contains xs h.row) more h.among)) [
         | inl old ↦ none (record { row = h.row; among = old; holds = h.holds })
-        | inr new ↦ let yes : found ≡ true = are.1 (subst P (sym new ∙ sym same) h.holds) in cc
+        | inr new ↦ let yes : found ≡ true = are (subst P (sym new ∙ sym same) h.holds) in cc
       ]
 
 -- ---- the stages of a denial
 
-module _ (program : List Clause) (events before after : List Atom) (level : List ℕ → ℕ) (happen front back : Stage) (are : AreStages happen front back) where
+module _ (program : List Clause) (events before after : List Atom) (level : List ℕ → ℕ) (happen front back : Stage) (are : AreStages happen front back) (touches : List Cond) (is_derived : Bool) where
   abbrev known : List ℕ
   known = vars_of happen.conds
 
@@ -263,7 +264,7 @@ module _ (program : List Clause) (events before after : List Atom) (level : List
   shared = vars_with known front.conds
 
   abbrev denial : Cut
-  denial = record { happen = happen.conds; front = front.conds; back = back.conds }
+  denial = record { happen = happen.conds; front = front.conds; back = back.conds; touches = touches; is_derived = is_derived }
 
   module _ (row : List Term) (rows : List (List Term)) (exact : (x : List Term) → Contains rows x ↔ IsReached program before level front row x) where
     left_to : HasOne (IsMetFrom program after level back) rows → IsLeft program before after level denial row
@@ -331,62 +332,52 @@ stages_are happen front back n none happened given found passed nothing one two 
       back_is = record { given_are = shared_is; found_are = nothing_is; known_below = both; conds_below = three; wanted_below = tt };
     }
 
+-- where there are no conditions after the cut the front decides
+pub left_by_front : (program : List Clause) (before after : List Atom) (level : List ℕ → ℕ) (happen front back : Stage) → AreStages happen front back → (denial : Cut) → happen.conds ≡ denial.happen → front.conds ≡ denial.front → denial.back ≡ [] →
+    (row : List Term) → IsMetFrom program before level front row ↔ IsLeft program before after level denial row
+left_by_front program before after level happen front back are denial happen_is front_is none row = (
+  λ h. record {
+    values = h.values;
+    is = same h.values ∙ h.given;
+    front = subst (AreMet program before level h.values) front_is h.met;
+    back = subst (AreMet program after level h.values) (sym none) tt;
+  },
+  λ h. record { values = h.values; given = sym (same h.values) ∙ h.is; met = subst (AreMet program before level h.values) (sym front_is) h.front },
+)
+  where
+    same : (s : ℕ → Term) → map s (vars_of denial.happen) ≡ map (put s) front.given
+    same s = ap (λ (ks : List Cond). map s (vars_of ks)) (sym happen_is) ∙ sym (given_values (vars_of happen.conds) (vars_with (vars_of happen.conds) front.conds) front are.front_is s)
+
 -- ---- the stages of a start
 
-module _ {X : Type 0} (P : ℕ → Type 0) (f : X → List ℕ) where
-  -- what holds of all numbers of some elements holds of those of each
-  all_of_one : (xs : List X) (x : X) → AllByRecursion P (flat_map f xs) → Contains xs x → AllByRecursion P (f x)
-  all_of_one [] x all at = absurd (nothing_contained x at)
-  all_of_one (y ∷ xs) x all at =
-      elim (first_or_later y xs x at) [
-        | inl same ↦ subst (λ z. AllByRecursion P (f z)) same (all_first P (f y) (flat_map f xs) all)
-        | inr later ↦ all_of_one xs x (all_second P (f y) (flat_map f xs) all) later
-      ]
-
-  -- and of those of some of the elements
-  all_of_some : (xs some : List X) → ((x : X) → Contains some x → Contains xs x) → AllByRecursion P (flat_map f xs) → AllByRecursion P (flat_map f some)
-  all_of_some xs [] among all = tt
-  all_of_some xs (x ∷ some) among all =
-      all_append P (f x) (flat_map f some) (all_of_one xs x all (among x (first_is_contained x some))) (all_of_some xs some (λ y at. among y (later_is_contained x some y at)) all)
-
 -- stages that are made of these parts are those of a start
-pub are_of_start : (own happen : List Cond) (n : ℕ) (none found given happened : List Term) → AllByRecursion (λ v. v < n) (flat_map cond_vars own) → AllByRecursion (λ v. v < n) (flat_map cond_vars happen) →
-    none ≡ [] → found ≡ map (λ v. t.Var v) (vars_of own) → given ≡ map (λ v. t.Var v) (vars_of own) → happened ≡ map (λ v. t.Var v) (vars_of happen) → ((k : Cond) → Contains own k → Contains happen k) →
+pub are_of_start : (own happen : List Cond) (n : ℕ) (shared : List ℕ) (none found given happened : List Term) → AllByRecursion (λ v. v < n) (flat_map cond_vars own) → AllByRecursion (λ v. v < n) (flat_map cond_vars happen) →
+    AllByRecursion (Contains (flat_map cond_vars own)) shared → none ≡ [] → found ≡ map (λ v. t.Var v) shared → given ≡ map (λ v. t.Var v) shared → happened ≡ map (λ v. t.Var v) (vars_of happen) →
     IsStart happen (record { first = record { conds = own; given = none; found = found; variables = n }; rest = record { conds = happen; given = given; found = happened; variables = n } })
-are_of_start own happen n none found given happened one two none_is found_is given_is happened_is among =
-    let known = all_in_order (λ v. v < n) (flat_map cond_vars own) one in
+are_of_start own happen n shared none found given happened one two within none_is found_is given_is happened_is =
+    let known : AllByRecursion (λ v. v < n) shared = all_weaker (Contains (flat_map cond_vars own)) (λ v. v < n) (λ v at. of_element (λ w. w < n) (flat_map cond_vars own) v one at) shared within in
     record {
+      shared = shared;
       first_is = record { given_are = none_is; found_are = found_is; known_below = tt; conds_below = one; wanted_below = known };
       rest_is = record { given_are = given_is; found_are = happened_is; known_below = known; conds_below = two; wanted_below = all_in_order (λ v. v < n) (flat_map cond_vars happen) two };
       conds_are = refl;
-      among = among;
+      within = within;
     }
 
 module _ (program : List Clause) (new events before after : List Atom) (level : List ℕ → ℕ) (denial : Cut) (start : Start) (is : IsStart denial.happen start) where
-  abbrev own : List ℕ
-  own = vars_of start.first.conds
-
   abbrev all : List ℕ
   all = vars_of denial.happen
 
   module _ (row : List Term) (rows : List (List Term)) (exact : (x : List Term) → Contains rows x ↔ IsReached program events level start.rest row x) where
-    with_to : HasOne (IsLeft program before after level denial) rows → IsViolatedWith program events before after level denial start.rest.given row
+    with_to : HasOne (IsLeft program before after level denial) rows → IsViolated program events before after level denial
     with_to h =
         let one = (exact h.row).0 h.among in
         let s : ℕ → Term = one.values in
         let r : ℕ → Term = h.holds.values in
-        let same : map s all ≡ map r all = sym (found_values own all start.rest is.rest_is s) ∙ sym one.is ∙ sym h.holds.is in
-        let agree = agree_in s r all same in
+        let same : map s all ≡ map r all = sym (found_values is.shared all start.rest is.rest_is s) ∙ sym one.is ∙ sym h.holds.is in
         let met : AreMet program events level s denial.happen = subst (AreMet program events level s) is.conds_are one.met in
-        let both = all_as_written (λ v. s v ≡ r v) (flat_map cond_vars denial.happen) agree in
-        let few = all_in_order (λ v. s v ≡ r v) (flat_map cond_vars start.first.conds) (all_of_some (λ v. s v ≡ r v) cond_vars denial.happen start.first.conds is.among both) in
-        record {
-          values = r;
-          is = given_values own all start.rest is.rest_is r ∙ sym (row_of_agreeing s r own few) ∙ sym (given_values own all start.rest is.rest_is s) ∙ one.given;
-          happen = met_alike program events level s r denial.happen both met;
-          front = h.holds.front;
-          back = h.holds.back;
-        }
+        let both = all_as_written (λ v. s v ≡ r v) (flat_map cond_vars denial.happen) (agree_in s r all same) in
+        record { values = r; happen = met_alike program events level s r denial.happen both met; front = h.holds.front; back = h.holds.back }
 
     with_from : IsViolatedWith program events before after level denial start.rest.given row → HasOne (IsLeft program before after level denial) rows
     with_from h =
@@ -396,34 +387,27 @@ module _ (program : List Clause) (new events before after : List Atom) (level : 
         record {
           row = map (put s) start.rest.found;
           among = (exact (map (put s) start.rest.found)).1 here;
-          holds = record { values = s; is = sym (found_values own all start.rest is.rest_is s); front = h.front; back = h.back };
+          holds = record { values = s; is = sym (found_values is.shared all start.rest is.rest_is s); front = h.front; back = h.back };
         }
 
-    pub with_is : HasOne (IsLeft program before after level denial) rows ↔ IsViolatedWith program events before after level denial start.rest.given row
-    with_is = (with_to, with_from)
+    -- true is answered where one of the rows leaves both sides met
+    pub with_is : (answer : Bool) → (answer ≡ true) ↔ HasOne (IsLeft program before after level denial) rows → IsAnswered program events before after level denial (IsViolatedWith program events before after level denial start.rest.given row) answer
+    with_is answer are = record { sound = λ yes. with_to (are.0 yes); complete = λ h. are.1 (with_from h) }
 
   module _ (rows : List (List Term)) (exact : (x : List Term) → Contains rows x ↔ IsReached program new level start.first [] x) where
-    from_to : HasOne (IsViolatedWith program events before after level denial start.rest.given) rows → IsViolatedFrom program new events before after level denial start.first.conds
-    from_to h =
-        let one = (exact h.row).0 h.among in
-        let s : ℕ → Term = one.values in
-        let r : ℕ → Term = h.holds.values in
-        let same : map s own ≡ map r own = sym (found_values [] own start.first is.first_is s) ∙ sym one.is ∙ sym h.holds.is ∙ given_values own all start.rest is.rest_is r in
-        let agree = all_as_written (λ v. s v ≡ r v) (flat_map cond_vars start.first.conds) (agree_in s r own same) in
-        record { values = r; start = met_alike program new level s r start.first.conds agree one.met; happen = h.holds.happen; front = h.holds.front; back = h.holds.back }
-
     from_from : IsViolatedFrom program new events before after level denial start.first.conds → HasOne (IsViolatedWith program events before after level denial start.rest.given) rows
     from_from h =
         let s : ℕ → Term = h.values in
-        let here : IsReached program new level start.first [] (map (put s) start.first.found) = record { values = s; given = given_values [] own start.first is.first_is s; met = h.start; is = refl } in
+        let here : IsReached program new level start.first [] (map (put s) start.first.found) = record { values = s; given = given_values [] is.shared start.first is.first_is s; met = h.start; is = refl } in
         record {
           row = map (put s) start.first.found;
           among = (exact (map (put s) start.first.found)).1 here;
-          holds = record { values = s; is = given_values own all start.rest is.rest_is s ∙ sym (found_values [] own start.first is.first_is s); happen = h.happen; front = h.front; back = h.back };
+          holds = record { values = s; is = given_values is.shared all start.rest is.rest_is s ∙ sym (found_values [] is.shared start.first is.first_is s); happen = h.happen; front = h.front; back = h.back };
         }
 
-    pub from_is : HasOne (IsViolatedWith program events before after level denial start.rest.given) rows ↔ IsViolatedFrom program new events before after level denial start.first.conds
-    from_is = (from_to, from_from)
+    pub from_is : (answer : Bool) → IsAnswered program events before after level denial (HasOne (IsViolatedWith program events before after level denial start.rest.given) rows) answer →
+        IsAnswered program events before after level denial (IsViolatedFrom program new events before after level denial start.first.conds) answer
+    from_is answer are = record { sound = are.sound; complete = λ h. are.complete (from_from h) }
 
 -- the row of no variables
 pub no_row_fits : (count : ℕ) → count ≡ 0 → IsFit count []

@@ -38,8 +38,9 @@ module _ (program : List Clause) (events before after : List Atom) (level : List
   IsTruthful None = Unit {0}
   IsTruthful (Some k) = IsViolatedNumber program events before after level denials k
 
-  -- The number found is at most the one that was found before, and those of the violated denials at these places.
+  -- The number found is that of a violated denial, where the one that was found before is; it is at most that one, and at most the
+  -- numbers at these places.
   pub record IsLessened (P : ℕ → Type 0) (old found : Option ℕ) : Type 0 where
     pub truthful : IsTruthful old → IsTruthful found
     pub kept : (k : ℕ) → IsUpTo old k → IsUpTo found k
-    pub each : (place : ℕ) → P place → IsViolatedNumber program events before after level denials (suc place) → IsUpTo found (suc place)
+    pub each : (place : ℕ) → P place → IsUpTo found (suc place)

@@ -1,7 +1,7 @@
 -- How a denial is asked stage by stage, each over one set of facts: what is to happen over the events, the conditions before the
 -- cut over the state before, and those from the cut on over the state after. From stage to stage go rows of the values that the
 -- variables have so far.
-use Rattle.std.specs.Prelude.{◌≡◌, ◌<◌, ◌↔◌, ◌⊎◌, ◌∷◌, ℕ, Bool, false, Some, None, List, [], length, map, slice_get, Contains}
+use Rattle.std.specs.Prelude.{◌≡◌, ◌<◌, ◌↔◌, ◌⊎◌, ◌∷◌, ℕ, Bool, true, false, Some, None, List, [], length, map, slice_get, Contains}
 use Rattle.std.specs.List.{AllByRecursion, flat_map}
 use Rattle.lps_terms.specs.declared.atom.Atom.{Atom}
 use Rattle.lps_terms.specs.declared.cond.Cond.{Cond}
@@ -13,15 +13,17 @@ use Rattle.lps_terms.specs.Symbols.{symbols_of}
 use Rattle.lps_model.specs.Clauses.{Clause, clauses}
 use Rattle.lps_model.specs.Known.{Scope, conds_unknown}
 use Rattle.lps_model.specs.Program.{declarations}
-use Rattle.lps_model.specs.Rules.{denials}
 use Rattle.lps_model.specs.VariableLists.{cond_vars}
 use Rattle.lps_derivation.specs.Instances.{IsSmall}
 use Rattle.lps_derivation.specs.Levels.{AreLevels}
-use Rattle.lps_index.specs.Spoken.{IsFound, of_items}
+use Rattle.lps_facts.specs.Facts.{members}
+use Rattle.lps_causal.specs.Names.{AreFluents}
 use Rattle.lps_solve.specs.Answers.{with_vars}
 use Rattle.lps_solve.specs.Met.{AreGround, AreMet}
 use Rattle.lps_precond.specs.declared.stage.Stage.{Stage}
 use Rattle.lps_precond.specs.declared.start.Start.{Start}
+use Rattle.lps_precond.specs.declared.step.Through.{Through}
+use Rattle.lps_precond.specs.declared.step.Through.TheVariants.{Event, Fluents}
 use Rattle.lps_precond.specs.Cut.{Cut, cuts}
 
 -- ---- denials
@@ -135,17 +137,23 @@ pub record AreAllGround (events before after : List Atom) : Type 0 where
 abbrev pub single : Cond → List Cond
 single k = k ∷ []
 
--- The stages of the start ask for one thing that is to happen, and then for all of it, which is this.
+-- The stages of the start ask for a condition, and then for all that is to happen, which is this, where the variables in which they
+-- share have values.
 pub record IsStart (happen : List Cond) (start : Start) : Type 0 where
-  pub first_is : IsStage [] (vars_of start.first.conds) start.first
-  pub rest_is : IsStage (vars_of start.first.conds) (vars_of happen) start.rest
+  pub shared : List ℕ
+  pub first_is : IsStage [] shared start.first
+  pub rest_is : IsStage shared (vars_of happen) start.rest
   pub conds_are : start.rest.conds ≡ happen
-  pub among : (k : Cond) → Contains start.first.conds k → Contains happen k
+  pub within : AllByRecursion (Contains (flat_map cond_vars start.first.conds)) shared
 
--- the starts are those of a denial, one for each thing that is to happen
-pub record AreStarts (happen : List Cond) (starts : List Start) : Type 0 where
+-- the starts are those of a denial from each of these conditions
+pub record AreStarts (happen conds : List Cond) (starts : List Start) : Type 0 where
   pub each : AllByRecursion (λ start. IsStart happen start) starts
-  pub firsts : map (λ start. start.first.conds) starts ≡ map single happen
+  pub firsts : map (λ start. start.first.conds) starts ≡ map single conds
+
+-- the conditions that the starts ask for first
+abbrev pub firsts_of : List Start → List Cond
+firsts_of starts = flat_map (λ start. start.first.conds) starts
 
 -- both stages of the start can be asked
 pub record IsReadyStart (text : Text) (denial : Cut) (start : Start) : Type 0 where
@@ -154,7 +162,7 @@ pub record IsReadyStart (text : Text) (denial : Cut) (start : Start) : Type 0 wh
   pub rest : IsReady text start.rest
 
 module _ (program : List Clause) (new events before after : List Atom) (level : List ℕ → ℕ) (denial : Cut) where
-  -- some values violate the denial, and meet these conditions over the new events
+  -- some values violate the denial, and meet these conditions over what is new
   pub record IsViolatedFrom (first : List Cond) : Type 0 where
     pub values : ℕ → Term
     pub start : AreMet program new level values first
@@ -162,11 +170,38 @@ module _ (program : List Clause) (new events before after : List Atom) (level : 
     pub front : AreMet program before level values denial.front
     pub back : AreMet program after level values denial.back
 
-  -- some values violate the denial, and one of the events that are to happen is new
-  pub record IsViolatedByNew : Type 0 where
+  -- the same of one of these conditions
+  pub record IsViolatedBy (conds : List Cond) : Type 0 where
     pub cond : Cond
-    pub among : Contains denial.happen cond
+    pub among : Contains conds cond
     pub violated : IsViolatedFrom (single cond)
+
+  -- the same of what one of these starts asks for first
+  pub record IsViolatedByStart (starts : List Start) : Type 0 where
+    pub start : Start
+    pub among : Contains starts start
+    pub violated : IsViolatedFrom start.first.conds
+
+-- a derived predicate is asked for from the cut on, or one of these fluents
+abbrev pub IsViolatedByFluent : List Clause → List Atom → List Atom → List Atom → List Atom → (List ℕ → ℕ) → Cut → Type 0
+IsViolatedByFluent program fluents events before after level denial =
+    ((denial.is_derived ≡ true) × IsViolated program events before after level denial) ⊎ IsViolatedBy program fluents events before after level denial denial.touches
+
+module _ (program : List Clause) (events before after : List Atom) (level : List ℕ → ℕ) (denial : Cut) where
+  -- the denial is violated with a new event, or by a new fluent
+  abbrev pub IsViolatedThrough : Through → Type 0
+  IsViolatedThrough (Event new) = IsViolatedBy program (members new.now) events before after level denial denial.happen
+  IsViolatedThrough (Fluents new) = IsViolatedByFluent program (members new.now) events before after level denial
+
+  -- true is answered only where the denial is violated, and wherever it is violated so
+  pub record IsAnswered (IsViolatedSo : Type 0) (answer : Bool) : Type 0 where
+    pub sound : answer ≡ true → IsViolated program events before after level denial
+    pub complete : IsViolatedSo → answer ≡ true
+
+-- a new event happened, and a new fluent is ground
+abbrev pub IsNew : List Atom → Through → Type 0
+IsNew events (Event new) = (a : Atom) → Contains (members new.now) a → Contains events a
+IsNew events (Fluents new) = (a : Atom) → Contains (members new.now) a → AreGround a.args
 
 -- some values that make up the row of what is given violate the denial
 pub record IsViolatedWith (program : List Clause) (events before after : List Atom) (level : List ℕ → ℕ) (denial : Cut) (given row : List Term) : Type 0 where
@@ -183,39 +218,29 @@ abbrev pub ViolateNone : Text → List Atom → List Atom → List Atom → Type
 ViolateNone text events before after = (level : List ℕ → ℕ) → AreLevels (clauses text) level → (denial : Cut) → Contains (cuts text) denial →
     IsViolated (clauses text) events before after level denial → ⊥
 
--- The events are some old ones, which violate no denial with the state `earlier` that they make, and the new ones; where these
--- change nothing the state after is that one.
-pub record AreNews (text : Text) (new events before after : List Atom) (is_changed : Bool) : Type 0 where
+-- What happened are some old events, which violate no denial with the state `earlier` that they make, and the new ones; where the
+-- new ones are all events there are no old ones. Only in the fluents that are touched may the state after be another than the
+-- earlier one.
+pub record AreNews (text : Text) (events new happened before after touched : List Atom) : Type 0 where
   pub old : List Atom
   pub earlier : List Atom
-  pub split : (a : Atom) → Contains events a ↔ (Contains old a ⊎ Contains new a)
-  pub unchanged : is_changed ≡ false → (a : Atom) → Contains after a ↔ Contains earlier a
+  pub split : (a : Atom) → Contains happened a ↔ (Contains old a ⊎ Contains new a)
+  pub first : length events ≡ length new → (a : Atom) → Contains old a → ⊥
+  pub untouched : (a : Atom) → (Contains touched a → ⊥) → Contains after a ↔ Contains earlier a
+  pub fluents : AreFluents text earlier
+  pub touched_are : AreFluents text touched
   pub allowed : ViolateNone text old before earlier
 
--- the denial at the place may be violated by old events alone: it has conditions on the state after, and this is changed
-pub record MayTurn (is_changed : Bool) (denials : List Cut) (place : ℕ) : Type 0 where
+-- a denial of these with the property stands at the place
+pub record IsAt (denials : List Cut) (P : Cut → Type 0) (place : ℕ) : Type 0 where
   pub denial : Cut
   pub at : slice_get denials place ≡ Some denial
-  pub turns : (is_changed ≡ false) ⊎ (denial.back ≡ []) → ⊥
-
--- the denial at the place has an atom that one of the events may match
-pub record IsConcerned (text : Text) (events : List Atom) (place : ℕ) : Type 0 where
-  pub event : Atom
-  pub among : Contains events event
-  pub found : IsFound of_items (denials text) event place
+  pub holds : P denial
 
 -- the denial at the place has conditions on the state after
-pub record IsLate (denials : List Cut) (place : ℕ) : Type 0 where
-  pub denial : Cut
-  pub at : slice_get denials place ≡ Some denial
-  pub has : denial.back ≡ [] → ⊥
+abbrev pub IsLate : List Cut → ℕ → Type 0
+IsLate denials place = IsAt denials (λ denial. denial.back ≡ [] → ⊥) place
 
 -- the places of exactly these denials
 abbrev pub AreLate : List Cut → List ℕ → Type 0
 AreLate denials late = (place : ℕ) → Contains late place ↔ IsLate denials place
-
--- What denials can be asked about: events among which these are new, with facts before and after, all of them ground.
-pub record IsAskable (text : Text) (new events before after : List Atom) (is_changed : Bool) : Type 0 where
-  pub ground : AreAllGround events before after
-  pub new_ground : (a : Atom) → Contains new a → AreGround a.args
-  pub news : AreNews text new events before after is_changed

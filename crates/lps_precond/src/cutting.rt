@@ -1,8 +1,10 @@
 //! Where denials are cut, and their items as conditions.
 ghost use Rattle.std.specs.Prelude.{◌≡◌, ◌≤◌, ◌++◌, IfOk, OnOk, length};
-ghost use Rattle.lps_precond.specs.Cut.{cond_of, conds_of, count_early, events_of, is_late, second_in};
+ghost use Rattle.std.specs.List.{flat_map, list_any};
+ghost use Rattle.lps_precond.specs.Cut.{asks_derived, cond_of, conds_of, count_early, events_of, is_late, second_in, touch_of};
 
-use lps_terms::{Cond, Item, Lit, copy_atom, copy_built, copy_lit};
+use lps_model::Accepted;
+use lps_terms::{Cond, Item, Kind, Lit, copy_atom, copy_built, copy_lit};
 use sqlite_items::Items;
 use std::alloc::{AllocError, Global};
 
@@ -80,4 +82,63 @@ pub(crate) fn events(alloc: Global, items: &[Item]) -> Result<Items<Cond>, Alloc
         }
     }
     Ok(Items::from_vec(conds))
+}
+
+/// The fluents that the conditions ask for, each to be true.
+pub(crate) fn touches(
+    alloc: Global,
+    text: &Accepted,
+    conds: &[Cond],
+) -> Result<Items<Cond>, AllocError>
+    ensures { IfOk result (λ touches. touches ≡ flat_map (touch_of text.now) conds.now) }
+{
+    let mut touches = Vec::new(alloc);
+    for cond in conds {
+        add_touch(alloc, text, cond, &mut touches)?;
+    }
+    Ok(Items::from_vec(touches))
+}
+
+/// Adds the fluent that the condition asks for, if it does.
+fn add_touch(
+    alloc: Global,
+    text: &Accepted,
+    cond: &Cond,
+    touches: &mut Vec<Cond>,
+) -> Result<(), AllocError>
+    ensures { OnOk result (touches.new.items ≡ touches.old.items ++ touch_of text.now cond.now) }
+{
+    let Cond::Lit(lit) = cond else {
+        return Ok(());
+    };
+    match text.kind(&lit.atom.name) {
+        Some(Kind::Fluent) => touches.push(Cond::Lit(Lit {
+            negated: false,
+            atom: copy_atom(alloc, &lit.atom)?,
+        }))?,
+        _ => {}
+    }
+    Ok(())
+}
+
+/// Whether one of the conditions asks for a derived predicate.
+pub(crate) fn ask_derived(text: &Accepted, conds: &[Cond]) -> bool
+    ensures { result ≡ list_any (asks_derived text.now) conds.now }
+{
+    for cond in conds {
+        if is_derived(text, cond) {
+            return true;
+        }
+    }
+    false
+}
+
+/// Whether the condition does.
+fn is_derived(text: &Accepted, cond: &Cond) -> bool
+    ensures { result ≡ asks_derived text.now cond.now }
+{
+    match cond {
+        Cond::Lit(lit) => matches!(text.kind(&lit.atom.name), Some(Kind::Derived)),
+        Cond::Built(_) => false,
+    }
 }

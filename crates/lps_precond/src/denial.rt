@@ -1,18 +1,20 @@
-ghost use Rattle.std.specs.Prelude.{◌≡◌, ◌↔◌, ◌⊎◌, ℕ, [], true, false, List, IfOk, IsTrue, Contains, length, map};
+ghost use Rattle.std.specs.Prelude.{◌≡◌, ◌↔◌, ℕ, [], List, true, false, IfOk, IsTrue, Contains, length, map};
+ghost use Rattle.std.specs.List.{AllByRecursion};
 ghost use Rattle.lps_terms.specs.declared.atom.Atom.{Atom as Fact};
 ghost use Rattle.lps_model.specs.Clauses.{clauses};
 ghost use Rattle.lps_derivation.specs.Levels.{AreLevels};
 ghost use Rattle.lps_facts.specs.Facts.{members};
-ghost use Rattle.lps_precond.specs.Cut.{cut, cuts};
+ghost use Rattle.lps_precond.specs.Cut.{cut, cut_at, cuts};
 ghost use Rattle.lps_solve.specs.Met.{AreGround};
-ghost use Rattle.lps_precond.specs.Stages.{AreAllGround, AreFit, AreNews, AreStarts, HasOne, IsFit, IsLeft, IsReadyStart, IsViolated, IsViolatedByNew, IsViolatedFrom, IsViolatedWith, vars_of};
+ghost use Rattle.lps_precond.specs.Stages.{AreAllGround, AreFit, AreStarts, HasOne, IsAnswered, IsFit, IsLeft, IsNew, IsReadyStart, IsViolated, IsViolatedBy, IsViolatedByFluent, IsViolatedByStart, IsViolatedFrom, IsViolatedThrough, IsViolatedWith, firsts_of, vars_of};
 
-use crate::cutting::{conditions, early_items, events, second_time};
+use crate::cutting::{ask_derived, conditions, early_items, events, second_time, touches};
 use crate::noting::{above_all, variables_of, variables_of_both};
 use crate::stage::Stage;
 use crate::start::{Start, starts_of};
-use crate::step::Step;
+use crate::step::{Step, Through};
 use lps_facts::Facts;
+use lps_model::Accepted;
 use lps_solve::Program;
 use lps_terms::{Cond, Item, Term, Values};
 use sqlite_items::Items;
@@ -28,8 +30,12 @@ pub(crate) struct Denial {
     front: Stage,
     /// The conditions from there on.
     back: Stage,
-    /// One for each thing that is to happen.
+    /// One from each thing that is to happen.
     starts: Vec<Start>,
+    /// One from each fluent that is to be true or not to be true from the cut on.
+    touches: Vec<Start>,
+    /// Whether a derived predicate is asked for from the cut on, which any fluent may touch.
+    is_derived: bool,
 }
 
 impl Model for Denial {
@@ -37,41 +43,43 @@ impl Model for Denial {
     ghost use Rattle.lps_terms.specs.contracts.term.Term as term;
     ghost use Rattle.std.specs.Coded.{codes};
     ghost use Rattle.lps_precond.specs.Cut.{Cut};
-    ghost use Rattle.lps_precond.specs.Stages.{AreStages, AreStarts};
+    ghost use Rattle.lps_precond.specs.Stages.{AreStages, AreStarts, firsts_of};
 
     ghost Value = { Cut };
 
     ghost coded = { Prim.hlevel (codes, term.the_row.coded, expr.the_row.coded) };
 
-    ghost view = { λ denial. record { happen = denial.happen.conds; front = denial.front.conds; back = denial.back.conds } };
+    ghost view = { λ denial. record { happen = denial.happen.conds; front = denial.front.conds; back = denial.back.conds; touches = firsts_of denial.touches.items; is_derived = denial.is_derived } };
 
-    ghost invariant = { λ denial. AreStages denial.happen denial.front denial.back × AreStarts denial.happen.conds denial.starts.items };
+    ghost invariant = { λ denial. AreStages denial.happen denial.front denial.back × AreStarts denial.happen.conds denial.happen.conds denial.starts.items × AreStarts denial.happen.conds (firsts_of denial.touches.items) denial.touches.items };
 }
 
 impl Denial {
-    /// The denial of these items. An error comes where memory runs out or a variable's number is too high.
-    pub(crate) fn new(alloc: Global, items: &[Item]) -> Result<Denial, AllocError>
-        ensures { IfOk result (λ denial. denial ≡ cut items.now) }
+    /// The denial of these items of a text. An error comes where memory runs out or a variable's number is too high.
+    pub(crate) fn new(alloc: Global, text: &Accepted, items: &[Item]) -> Result<Denial, AllocError>
+        ensures { IfOk result (λ denial. denial ≡ cut text.now items.now) }
     {
         let early = early_items(second_time(items), items);
         let happen = events(alloc, items)?;
         let front = conditions(alloc, &items[..early])?;
         let back = conditions(alloc, &items[early..])?;
-        let starts = starts_of(alloc, items)?;
-        Denial::of_conds(alloc, happen, front, back, starts)
+        Denial::of_conds(alloc, text, happen, front, back)
     }
 
-    /// The denial of these conditions, with its starts.
+    /// The denial of these conditions.
     fn of_conds(
         alloc: Global,
+        text: &Accepted,
         happen: Items<Cond>,
         front: Items<Cond>,
         back: Items<Cond>,
-        starts: Vec<Start>,
     ) -> Result<Denial, AllocError>
-        requires { AreStarts happen starts.items }
-        ensures { IfOk result (λ denial. denial ≡ record { happen = happen; front = front; back = back }) }
+        ensures { IfOk result (λ denial. denial ≡ cut_at text.now happen front back) }
     {
+        let starts = starts_of(alloc, happen.as_slice(), happen.as_slice())?;
+        let touched = touches(alloc, text, back.as_slice())?;
+        let touches = starts_of(alloc, touched.as_slice(), happen.as_slice())?;
+        let is_derived = ask_derived(text, back.as_slice());
         let variables = above_all(happen.as_slice(), front.as_slice(), back.as_slice())?;
         let happened = variables_of(alloc, happen.as_slice())?;
         let given = variables_of(alloc, happen.as_slice())?;
@@ -97,11 +105,52 @@ impl Denial {
                 variables,
             },
             starts,
+            touches,
+            is_derived,
         })
     }
 
-    /// Whether the events of the step violate the denial. An error comes where memory runs out.
+    /// True where the denial is violated through what is new, and only where it is violated. An error comes where memory runs out.
     pub(crate) fn is_violated(
+        &self,
+        alloc: Global,
+        program: &Program,
+        step: &Step<'_>,
+        through: Through<'_>,
+    ) -> Result<bool, AllocError>
+        requires of_text { Contains (cuts program.now) self.now }
+        requires ground { AreAllGround (members step.now.happened.now) (members step.now.before.now) (members step.now.after.now) }
+        requires new { IsNew (members step.now.happened.now) through }
+        ensures { IfOk result (λ met. (level : List ℕ → ℕ) → AreLevels (clauses program.now) level → IsAnswered (clauses program.now) (members step.now.happened.now) (members step.now.before.now) (members step.now.after.now) level self.now (IsViolatedThrough (clauses program.now) (members step.now.happened.now) (members step.now.before.now) (members step.now.after.now) level self.now through.entry) met) }
+    {
+        match through {
+            Through::Event(new) => self.is_violated_by_event(alloc, program, step, new),
+            Through::Fluents(new) => self.is_violated_by_fluent(alloc, program, step, new),
+        }
+    }
+
+    /// The same through a new event.
+    fn is_violated_by_event(
+        &self,
+        alloc: Global,
+        program: &Program,
+        step: &Step<'_>,
+        new: &Facts,
+    ) -> Result<bool, AllocError>
+        requires of_text { Contains (cuts program.now) self.now }
+        requires ground { AreAllGround (members step.now.happened.now) (members step.now.before.now) (members step.now.after.now) }
+        requires new { (a : Fact) → Contains (members new.now) a → Contains (members step.now.happened.now) a }
+        ensures { IfOk result (λ met. (level : List ℕ → ℕ) → AreLevels (clauses program.now) level → IsAnswered (clauses program.now) (members step.now.happened.now) (members step.now.before.now) (members step.now.after.now) level self.now (IsViolatedBy (clauses program.now) (members new.now) (members step.now.happened.now) (members step.now.before.now) (members step.now.after.now) level self.now self.now.happen) met) }
+    {
+        program.lawful();
+        if self.happen.conds.len() == 1 {
+            return self.is_violated_over(alloc, program, step, new);
+        }
+        self.is_violated_from_one(alloc, program, step, new, self.starts.as_slice())
+    }
+
+    /// The same through a fluent that is touched.
+    fn is_violated_by_fluent(
         &self,
         alloc: Global,
         program: &Program,
@@ -111,22 +160,13 @@ impl Denial {
         requires of_text { Contains (cuts program.now) self.now }
         requires ground { AreAllGround (members step.now.happened.now) (members step.now.before.now) (members step.now.after.now) }
         requires new { (a : Fact) → Contains (members new.now) a → AreGround a.args }
-        requires news { AreNews program.now (members new.now) (members step.now.happened.now) (members step.now.before.now) (members step.now.after.now) step.now.is_changed }
-        ensures { IfOk result (λ met. (level : List ℕ → ℕ) → AreLevels (clauses program.now) level → IsTrue met ↔ IsViolated (clauses program.now) (members step.now.happened.now) (members step.now.before.now) (members step.now.after.now) level self.now) }
+        ensures { IfOk result (λ met. (level : List ℕ → ℕ) → AreLevels (clauses program.now) level → IsAnswered (clauses program.now) (members step.now.happened.now) (members step.now.before.now) (members step.now.after.now) level self.now (IsViolatedByFluent (clauses program.now) (members new.now) (members step.now.happened.now) (members step.now.before.now) (members step.now.after.now) level self.now) met) }
     {
         program.lawful();
-        if self.may_turn(step.is_changed) {
-            self.is_violated_wholly(alloc, program, step)
-        } else {
-            self.is_violated_by_new(alloc, program, step, new)
+        if self.is_derived {
+            return self.is_violated_over(alloc, program, step, step.happened);
         }
-    }
-
-    /// Whether old events alone may violate the denial: there are conditions on the state after, and this is a new one.
-    fn may_turn(&self, is_changed: bool) -> bool
-        ensures { result ≡ false → (is_changed ≡ false) ⊎ (self.now.back ≡ []) }
-    {
-        is_changed && self.is_late()
+        self.is_violated_from_one(alloc, program, step, new, self.touches.as_slice())
     }
 
     /// Whether there are conditions on the state after.
@@ -137,37 +177,40 @@ impl Denial {
         !self.back.conds.is_empty()
     }
 
-    /// Whether an instance violates the denial, whatever events it has.
-    fn is_violated_wholly(
+    /// Whether an instance violates the denial in which all that happens is among these events.
+    fn is_violated_over(
         &self,
         alloc: Global,
         program: &Program,
         step: &Step<'_>,
+        events: &Facts,
     ) -> Result<bool, AllocError>
         requires of_text { Contains (cuts program.now) self.now }
         requires ground { AreAllGround (members step.now.happened.now) (members step.now.before.now) (members step.now.after.now) }
-        ensures { IfOk result (λ met. (level : List ℕ → ℕ) → AreLevels (clauses program.now) level → IsTrue met ↔ IsViolated (clauses program.now) (members step.now.happened.now) (members step.now.before.now) (members step.now.after.now) level self.now) }
+        requires events { (a : Fact) → Contains (members events.now) a → AreGround a.args }
+        ensures { IfOk result (λ met. (level : List ℕ → ℕ) → AreLevels (clauses program.now) level → IsTrue met ↔ IsViolated (clauses program.now) (members events.now) (members step.now.before.now) (members step.now.after.now) level self.now) }
     {
         program.lawful();
-        let rows = self.happen.rows(alloc, program, step.happened, &[])?;
+        let rows = self.happen.rows(alloc, program, events, &[])?;
         self.is_left_by_one(alloc, program, step, rows.as_slice())
     }
 
-    /// Whether an instance violates the denial in which one of the events that are to happen is a new one.
-    fn is_violated_by_new(
+    /// True where the denial is violated from one of the starts, and only where it is violated.
+    fn is_violated_from_one(
         &self,
         alloc: Global,
         program: &Program,
         step: &Step<'_>,
         new: &Facts,
+        starts: &[Start],
     ) -> Result<bool, AllocError>
         requires of_text { Contains (cuts program.now) self.now }
         requires ground { AreAllGround (members step.now.happened.now) (members step.now.before.now) (members step.now.after.now) }
         requires new { (a : Fact) → Contains (members new.now) a → AreGround a.args }
-        ensures { IfOk result (λ met. (level : List ℕ → ℕ) → AreLevels (clauses program.now) level → IsTrue met ↔ IsViolatedByNew (clauses program.now) (members new.now) (members step.now.happened.now) (members step.now.before.now) (members step.now.after.now) level self.now) }
+        requires starts { AllByRecursion (λ start. IsReadyStart program.now self.now start) starts.now }
+        ensures { IfOk result (λ met. (level : List ℕ → ℕ) → AreLevels (clauses program.now) level → IsAnswered (clauses program.now) (members step.now.happened.now) (members step.now.before.now) (members step.now.after.now) level self.now (IsViolatedByStart (clauses program.now) (members new.now) (members step.now.happened.now) (members step.now.before.now) (members step.now.after.now) level self.now starts.now) met) }
     {
-        program.lawful();
-        for start in self.starts.as_slice() {
+        for start in starts {
             if self.is_violated_from(alloc, program, step, new, start)? {
                 return Ok(true);
             }
@@ -175,7 +218,7 @@ impl Denial {
         Ok(false)
     }
 
-    /// The same where the start asks for the new one.
+    /// The same from this start.
     fn is_violated_from(
         &self,
         alloc: Global,
@@ -188,13 +231,13 @@ impl Denial {
         requires ground { AreAllGround (members step.now.happened.now) (members step.now.before.now) (members step.now.after.now) }
         requires new { (a : Fact) → Contains (members new.now) a → AreGround a.args }
         requires start { IsReadyStart program.now self.now start.now }
-        ensures { IfOk result (λ met. (level : List ℕ → ℕ) → AreLevels (clauses program.now) level → IsTrue met ↔ IsViolatedFrom (clauses program.now) (members new.now) (members step.now.happened.now) (members step.now.before.now) (members step.now.after.now) level self.now start.now.first.conds) }
+        ensures { IfOk result (λ met. (level : List ℕ → ℕ) → AreLevels (clauses program.now) level → IsAnswered (clauses program.now) (members step.now.happened.now) (members step.now.before.now) (members step.now.after.now) level self.now (IsViolatedFrom (clauses program.now) (members new.now) (members step.now.happened.now) (members step.now.before.now) (members step.now.after.now) level self.now start.now.first.conds) met) }
     {
         let rows = start.first.rows(alloc, program, new, &[])?;
         self.is_violated_with_one(alloc, program, step, start, rows.as_slice())
     }
 
-    /// The same where the variables of what the start asks for first have one of the rows of values.
+    /// The same where the variables that the start shares with what is to happen have one of the rows of values.
     fn is_violated_with_one(
         &self,
         alloc: Global,
@@ -207,7 +250,7 @@ impl Denial {
         requires ground { AreAllGround (members step.now.happened.now) (members step.now.before.now) (members step.now.after.now) }
         requires start { IsReadyStart program.now self.now start.now }
         requires rows { AreFit (length start.now.rest.given) (map (λ v. v.0) rows.now) }
-        ensures { IfOk result (λ met. (level : List ℕ → ℕ) → AreLevels (clauses program.now) level → IsTrue met ↔ HasOne (IsViolatedWith (clauses program.now) (members step.now.happened.now) (members step.now.before.now) (members step.now.after.now) level self.now start.now.rest.given) (map (λ v. v.0) rows.now)) }
+        ensures { IfOk result (λ met. (level : List ℕ → ℕ) → AreLevels (clauses program.now) level → IsAnswered (clauses program.now) (members step.now.happened.now) (members step.now.before.now) (members step.now.after.now) level self.now (HasOne (IsViolatedWith (clauses program.now) (members step.now.happened.now) (members step.now.before.now) (members step.now.after.now) level self.now start.now.rest.given) (map (λ v. v.0) rows.now)) met) }
     {
         for row in rows {
             if self.is_violated_with(alloc, program, step, start, row.0.as_slice())? {
@@ -230,7 +273,7 @@ impl Denial {
         requires ground { AreAllGround (members step.now.happened.now) (members step.now.before.now) (members step.now.after.now) }
         requires start { IsReadyStart program.now self.now start.now }
         requires row { IsFit (length start.now.rest.given) row.now }
-        ensures { IfOk result (λ met. (level : List ℕ → ℕ) → AreLevels (clauses program.now) level → IsTrue met ↔ IsViolatedWith (clauses program.now) (members step.now.happened.now) (members step.now.before.now) (members step.now.after.now) level self.now start.now.rest.given row.now) }
+        ensures { IfOk result (λ met. (level : List ℕ → ℕ) → AreLevels (clauses program.now) level → IsAnswered (clauses program.now) (members step.now.happened.now) (members step.now.before.now) (members step.now.after.now) level self.now (IsViolatedWith (clauses program.now) (members step.now.happened.now) (members step.now.before.now) (members step.now.after.now) level self.now start.now.rest.given row.now) met) }
     {
         let rows = start.rest.rows(alloc, program, step.happened, row)?;
         self.is_left_by_one(alloc, program, step, rows.as_slice())
@@ -272,6 +315,9 @@ impl Denial {
     {
         program.lawful();
         let rows = self.front.rows(alloc, program, step.before, row)?;
+        if !self.is_late() {
+            return Ok(!rows.is_empty());
+        }
         self.back
             .is_met_by_one(alloc, program, step.after, rows.as_slice())
     }

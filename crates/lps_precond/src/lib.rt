@@ -9,14 +9,15 @@
 //! with these the conditions before the cut are asked for in the state before, and then the rest in the state after.
 //!
 //! Events are tried some at a time, and those before the new ones violate no denial. So a denial is asked only where the index finds
-//! it by a new event, and then from that event on; or wholly, where it has conditions on the state after and the new events changed
-//! that. The denials are asked in any order, and the least number so far is kept.
+//! it by a new event, and then from that event on; or from a fluent on that the new events touched and that is to be true or not to
+//! be true in the state after. Only where a derived predicate is asked for there, which may hang on any fluent, it is asked wholly.
+//! The denials are asked in any order, and the least number so far is kept.
 //!
 //! Contracts cite these definitions:
 //!
 //! | file of `specs/` | defines |
 //! |---|---|
-//! | `Cut` | where a denial is cut, and its parts as conditions |
+//! | `Cut` | where a denial is cut, its parts as conditions, and the fluents that it asks for after the cut |
 //! | `Stages` | how the parts are asked one after the other, the rows of values that go from one to the next, and what is asked of new events |
 //! | `Judged` | what is answered, and how the least number is found place by place |
 #![tactic(auto)]

@@ -1,5 +1,5 @@
 //! The variables of conditions.
-ghost use Rattle.std.specs.Prelude.{◌≡◌, ◌<◌, IfOk, OnOk, map};
+ghost use Rattle.std.specs.Prelude.{◌≡◌, ◌<◌, Contains, IfOk, OnOk, map};
 ghost use Rattle.std.specs.List.{AllByRecursion, flat_map};
 ghost use Rattle.lps_terms.specs.declared.term.Term.TheVariants.{Var};
 ghost use Rattle.lps_model.specs.VariableLists.{cond_vars};
@@ -17,7 +17,7 @@ pub(crate) fn variables_of(alloc: Global, conds: &[Cond]) -> Result<Args, AllocE
 {
     let mut variables = BTreeSet::new(alloc);
     note_conds(conds, &mut variables)?;
-    as_terms(alloc, variables)
+    set_as_terms(alloc, variables)
 }
 
 /// The same of conditions and more of them.
@@ -31,7 +31,39 @@ pub(crate) fn variables_of_both(
     let mut variables = BTreeSet::new(alloc);
     note_conds(conds, &mut variables)?;
     note_conds(more, &mut variables)?;
-    as_terms(alloc, variables)
+    set_as_terms(alloc, variables)
+}
+
+/// The variables of conditions that others share with them.
+pub(crate) fn shared_variables(
+    alloc: Global,
+    conds: &[Cond],
+    others: &[Cond],
+) -> Result<Vec<u32>, AllocError>
+    ensures { IfOk result (λ shared. AllByRecursion (Contains (flat_map cond_vars conds.now)) shared.items) }
+{
+    let mut own = BTreeSet::new(alloc);
+    note_conds(conds, &mut own)?;
+    let mut all = BTreeSet::new(alloc);
+    note_conds(others, &mut all)?;
+    let mut shared = Vec::new(alloc);
+    for variable in own {
+        if all.contains(&variable) {
+            shared.push(variable)?;
+        }
+    }
+    Ok(shared)
+}
+
+/// The variables as terms.
+pub(crate) fn as_terms(alloc: Global, variables: &[u32]) -> Result<Args, AllocError>
+    ensures { IfOk result (λ terms. terms ≡ map (λ v. Var v) variables.now) }
+{
+    let mut terms = Vec::new(alloc);
+    for variable in variables {
+        terms.push(Term::Var(*variable))?;
+    }
+    Ok(Items::from_vec(terms))
 }
 
 /// Notes the variables of conditions.
@@ -44,7 +76,7 @@ fn note_conds(conds: &[Cond], variables: &mut BTreeSet<u32>) -> Result<(), Alloc
     Ok(())
 }
 
-fn as_terms(alloc: Global, variables: BTreeSet<u32>) -> Result<Args, AllocError>
+fn set_as_terms(alloc: Global, variables: BTreeSet<u32>) -> Result<Args, AllocError>
     ensures { IfOk result (λ terms. terms ≡ map (λ v. Var v) variables.keys) }
 {
     let mut terms = Vec::new(alloc);

@@ -15,6 +15,15 @@ pub struct Step<'a> {
     pub before: &'a Facts,
     /// The state that they make of it.
     pub after: &'a Facts,
-    /// Whether the state after may be another than that which the old events make.
-    pub is_changed: bool,
+    /// The fluents in which the state after may be another than that which the old events make.
+    pub touched: &'a [Atom],
+}
+
+/// What is new in the instances of a denial that are asked for.
+#[derive(Clone, Copy)]
+pub(crate) enum Through<'a> {
+    /// One of these events is to happen.
+    Event(&'a Facts),
+    /// One of these fluents is to be true or not to be true after the events, or what is derived is.
+    Fluents(&'a Facts),
 }

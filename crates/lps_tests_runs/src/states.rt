@@ -57,6 +57,21 @@ const DENIALS_OF_BOTH_STATES: Run = (
         reject move(x, b) by 2\nstate stands(x, b), stands(y, a)\ndone\n",
 );
 
+/// What a later event touches may make an earlier one violate a denial over the state after: by a fluent that ends, by one that
+/// begins, or by a clause.
+const DENIALS_OF_WHAT_IS_TOUCHED: Run = (
+    "fluent in/1, dark/0. event watch/1, leave/1, switch/0, ask/0. derived alone.\n\
+        alone if not in(b). initially in(a), in(b). leave(X) terminates in(X). switch initiates dark.\n\
+        false watch(X) from T1 to T2, not in(X) at T2.\n\
+        false watch(X) from T1 to T2, dark at T2.\n\
+        false ask from T1 to T2, alone at T2.",
+    "1: ask, leave(a), leave(b).\n2: watch(b), leave(b), switch, leave(c).\n3: watch(a).\n4: switch, watch(b).\n",
+    "cycle 0\nstate in(a), in(b)\ncycle 1\nadmit ask\nadmit leave(a)\nreject leave(b) by 3\nstate in(b)\n\
+        cycle 2\nadmit watch(b)\nreject leave(b) by 1\nreject switch by 2\nadmit leave(c)\nstate in(b)\n\
+        cycle 3\nreject watch(a) by 1\nstate in(b)\ncycle 4\nadmit switch\nreject watch(b) by 2\n\
+        state dark, in(b)\ndone\n",
+);
+
 /// A sum that leaves the integers of 64 bits has no effect.
 const SUM_OUT_OF_RANGE: Run = (
     "fluent n/1. event up/0. initially n(9223372036854775807).\n\
@@ -82,6 +97,7 @@ fn runs(rt: HostRuntime) -> Result<(), Fail> {
         DENIAL_OF_EVENTS,
         DENIAL_OF_THE_STATE_BEFORE,
         DENIALS_OF_BOTH_STATES,
+        DENIALS_OF_WHAT_IS_TOUCHED,
         SUM_OUT_OF_RANGE,
         RECURSION,
     ] {

@@ -1,9 +1,9 @@
 -- Trials that are made longer, taken back, and begun anew in the state after them.
-use Rattle.std.proofs.Common.{ℕ, Bool, false, ◌≡◌, List, [], ◌∷◌, ◌++◌, length, take, refl, sym, ap, subst, ◌∙◌, inl, inr, not, true, arith}
-use Rattle.std.specs.Prelude.{◌↔◌, ◌⊎◌, Contains, Result, Ok, Err, OnOk}
+use Rattle.std.proofs.Common.{ℕ, Bool, false, ◌≡◌, List, [], ◌∷◌, ◌++◌, ◌+◌, length, take, refl, sym, ap, subst, ◌∙◌, inl, inr, not, true, arith}
+use Rattle.std.specs.Prelude.{◌↔◌, ◌⊎◌, ◌||◌, ◌&&◌, Contains, Result, Ok, Err, OnOk}
 use Rattle.std.specs.List.{filter}
 use Rattle.std.specs.List.Sorted.{IsStrictlySortedBy}
-use Rattle.std.proofs.lemmas.List.{take_all}
+use Rattle.std.proofs.lemmas.List.{length-append, take_all}
 use Rattle.std.proofs.lemmas.List.Elements.{Contains-append_cases, Contains-append_left, Contains-append_right}
 use Rattle.lps_terms.specs.declared.atom.Atom.{Atom}
 use Rattle.lps_terms.specs.declared.effects.Effects.{Effects}
@@ -15,12 +15,13 @@ use Rattle.lps_model.specs.Formed.{is_formed}
 use Rattle.lps_model.proofs.Elements.{nothing_contained}
 use Rattle.lps_derivation.specs.Levels.{AreLevels}
 use Rattle.lps_facts.specs.Facts.{IsLater, TrailedSet, is_among, members, with_effects, with_facts}
-use Rattle.lps_facts.proofs.Sequences.{later_itself, later_still}
+use Rattle.lps_facts.proofs.Sequences.{later_itself, later_still, members_with_effects}
 use Rattle.lps_causal.specs.Effects.{AreEffects}
-use Rattle.lps_causal.specs.Names.{AreEvents, AreFluents}
+use Rattle.lps_causal.specs.Names.{AreEvents, AreFluents, IsFluent}
 use Rattle.lps_causal.specs.Next.{AreBegun, IsAfter, IsUpdate}
 use Rattle.lps_causal.proofs.Merging.{after_has_fluents, after_more, after_none, after_once, after_same, begun_more, begun_none, ended_more, ended_none, fluents_after, is_update}
 use Rattle.lps_causal.proofs.Settled.{kept_is}
+use Rattle.lps_solve.proofs.Facts.{among_contains, contains_among}
 use Rattle.lps_precond.specs.Stages.{AreNews, ViolateNone}
 use Rattle.lps_precond.proofs.Happened.{with_events}
 use Rattle.lps_precond.proofs.News.{nothing_violated}
@@ -98,6 +99,48 @@ is_first text state fluents sorted = record {
   allowed = λ accepted formed. nothing_violated text accepted formed (members state) (members state);
 }
 
+-- ---- what effects leave as it is
+
+-- a list with more at its end that is no longer
+no_more : {X : Type 0} (xs ys : List X) → length (xs ++ ys) ≡ length ys → xs ≡ []
+no_more [] ys e = refl
+no_more (x ∷ xs) ys e = absurd (let more : length (xs ++ ys) ≡ length xs + length ys = length-append xs ys in omega (arith, e, more))
+
+-- a fluent that is neither initiated anew nor ended stays as it is
+module _ (made : Effects) (facts begun : TrailedSet) (now : (a : Atom) → Contains made.terminated a → Contains (members begun) a → Contains made.initiated a) (a : Atom)
+    (off : Contains (filter (λ x. not (is_among (members facts) x)) made.initiated ++ filter (λ x. not (is_among (members begun) x)) made.terminated) a → ⊥) where
+  -- what is initiated was there
+  was_there : is_among made.initiated a ≡ true → (there : Bool) → is_among (members facts) a ≡ there → there ≡ true
+  was_there new true is = refl
+  was_there new false is =
+      absurd (off (Contains-append_left (filter (λ x. not (is_among (members facts) x)) made.initiated) (filter (λ x. not (is_among (members begun) x)) made.terminated) a
+      ((kept_is (members facts) made.initiated a).1 (contains_among a made.initiated new, λ at. (let yes : is_among (members facts) a ≡ true = among_contains a (members facts) at in cc)))))
+
+  -- what is terminated is initiated
+  comes_back : is_among made.terminated a ≡ true → (here : Bool) → is_among (members begun) a ≡ here → is_among made.initiated a ≡ true
+  comes_back out true is = among_contains a made.initiated (now a (contains_among a made.terminated out) (contains_among a (members begun) is))
+  comes_back out false is =
+      absurd (off (Contains-append_right (filter (λ x. not (is_among (members facts) x)) made.initiated) (filter (λ x. not (is_among (members begun) x)) made.terminated) a
+      ((kept_is (members begun) made.terminated a).1 (contains_among a made.terminated out, λ at. (let yes : is_among (members begun) a ≡ true = among_contains a (members begun) at in cc)))))
+
+  same_by : (new out there : Bool) → (new ≡ true → there ≡ true) → (out ≡ true → new ≡ true) → (new || (there && not out)) ≡ there
+  same_by true out there was back = sym (was refl)
+  same_by false true there was back = absurd (let no = back refl in cc)
+  same_by false false true was back = refl
+  same_by false false false was back = refl
+
+  same_among : is_among (members (with_effects made facts)) a ≡ is_among (members facts) a
+  same_among =
+      members_with_effects made facts a
+      ∙ same_by (is_among made.initiated a) (is_among made.terminated a) (is_among (members facts) a) (λ new. was_there new (is_among (members facts) a) refl)
+      (λ out. comes_back out (is_among (members begun) a) refl)
+
+  pub unchanged : Contains (members (with_effects made facts)) a ↔ Contains (members facts) a
+  unchanged = (
+    λ h. contains_among a (members facts) (sym same_among ∙ among_contains a (members (with_effects made facts)) h),
+    λ h. contains_among a (members (with_effects made facts)) (same_among ∙ among_contains a (members facts) h),
+  )
+
 -- ---- more events
 
 more_events : (text : Text) (events more : List Atom) → AreEvents text events → AreEvents text more → AreEvents text (events ++ more)
@@ -155,21 +198,38 @@ module _ (text : Text) (old : TrialState) (is : IsGrown text old) (events : List
       λ i. record { state = state_is i; next = next_is i; begun = begun_is i; ended = ended_is i; events = all_is i; happened = happened_is i } in
       subst (IsGrown text) (sym same) is_longer
 
-  no_effects : made.initiated ≡ [] → made.terminated ≡ [] → with_effects made old.next ≡ old.next
-  no_effects one two = λ i. with_facts true (one i) (with_facts false (two i) old.next)
+  -- ---- what is new
+
+  -- a fluent that is terminated and has begun is initiated by these events
+  initiated_now : (begun : TrailedSet) → begun ≡ with_facts true made.initiated old.begun → (a : Atom) → Contains made.terminated a → Contains (members begun) a → Contains made.initiated a
+  initiated_now begun is' a ended here =
+      elim ((with_events old.begun made.initiated a).0 (subst (λ (set : TrailedSet). Contains (members set) a) is' here)) [ inl before ↦ absurd (((gone a).0 ended).1 before) | inr now ↦ now ]
 
   -- what is new
-  pub news_are : ViolateNone text (members old.happened) (members old.state) (members old.next) → (state next happened : TrailedSet) → state ≡ old.state → next ≡ with_effects made old.next →
-      happened ≡ with_facts true events old.happened → (is_changed : Bool) → (is_changed ≡ false → (made.initiated ≡ []) × (made.terminated ≡ [])) → AreNews text events (members happened) (members state) (members next) is_changed
-  news_are allowed state next happened state_is next_is happened_is is_changed unchanged = record {
+  pub news_are : ViolateNone text (members old.happened) (members old.state) (members old.next) → AreFluents text effects.terminated → (state next begun happened : TrailedSet) (all touched : List Atom) → state ≡ old.state → next ≡ with_effects made old.next →
+      begun ≡ with_facts true made.initiated old.begun → happened ≡ with_facts true events old.happened → all ≡ old.events ++ events →
+      touched ≡ filter (λ a. not (is_among (members old.next) a)) made.initiated ++ filter (λ a. not (is_among (members begun) a)) made.terminated → AreNews text all events (members happened) (members state) (members next) touched
+  news_are allowed ended state next begun happened all touched state_is next_is begun_is happened_is all_is touched_is = record {
     old = members old.happened;
     earlier = members old.next;
     split = λ a. subst (λ (set : TrailedSet). Contains (members set) a ↔ (Contains (members old.happened) a ⊎ Contains events a)) (sym happened_is) (with_events old.happened events a);
-    unchanged = λ off a.
-        let none = unchanged off in
-        subst (λ (set : TrailedSet). Contains (members set) a ↔ Contains (members old.next) a) (sym (next_is ∙ no_effects none.0 none.1)) ((λ h. h), (λ h. h));
+    first = λ none a h.
+        let nothing : old.events ≡ [] = no_more old.events events (sym (ap length all_is) ∙ none) in
+        nothing_contained a (subst (λ (atoms : List Atom). Contains atoms a) nothing ((is.happened_are a).0 h));
+    untouched = λ a off.
+        subst (λ (set : TrailedSet). Contains (members set) a ↔ Contains (members old.next) a) (sym next_is)
+        (unchanged made old.next begun (initiated_now begun begun_is) a (λ at. off (subst (λ (atoms : List Atom). Contains atoms a) (sym touched_is) at)));
+    fluents = is.next_fluents;
+    touched_are = record { each = λ a at. touched_fluent a (subst (λ (atoms : List Atom). Contains atoms a) touched_is at) };
     allowed = subst (λ (set : TrailedSet). ViolateNone text (members old.happened) (members set) (members old.next)) (sym state_is) allowed;
   }
+    where
+      touched_fluent : (a : Atom) → Contains (filter (λ x. not (is_among (members old.next) x)) made.initiated ++ filter (λ x. not (is_among (members begun) x)) made.terminated) a → IsFluent text a
+      touched_fluent a at =
+          elim (Contains-append_cases (filter (λ x. not (is_among (members old.next) x)) made.initiated) (filter (λ x. not (is_among (members begun) x)) made.terminated) a at) [
+            | inl new ↦ new_fluents.each a (subst (λ (atoms : List Atom). Contains atoms a) initiated ((kept_is (members old.next) made.initiated a).0 new).0)
+            | inr out ↦ ended.each a ((gone a).0 ((kept_is (members begun) made.terminated a).0 out).0).0
+          ]
 
 -- ---- results
 

@@ -6,8 +6,8 @@
 //! has events that violate no denial, and the state that they make of the state before (`IsTrial`), so that `Trial::update` makes
 //! that the state (clause `next`).
 //!
-//! Since the events so far violate no denial, only what is new is asked of those that are tried: which of them they are, and whether
-//! they have effects.
+//! Since the events so far violate no denial, only what is new is asked of those that are tried: which of them they are, and which
+//! fluents they touch.
 //!
 //! What events initiate and terminate is asked for once, when they are tried, in the state before all of them, and made on top of
 //! the state after the events before them. Initiation wins over termination, also of events that came before.

@@ -54,7 +54,7 @@ impl Theory {
         ensures { IfOk result (λ theory. theory ≡ text) }
     {
         let laws = CausalLaws::new(alloc, text.text())?;
-        let denials = Denials::new(alloc, text.text())?;
+        let denials = Denials::new(alloc, &text)?;
         let program = Program::new(alloc, text)?;
         Ok(Theory {
             program,
@@ -104,7 +104,7 @@ impl Theory {
         requires events { AreEvents self.now step.now.events.now }
         requires happened { (a : Fact) → Contains (members step.now.happened.now) a ↔ Contains step.now.events.now a }
         requires next { IsUpdate self.now (members step.now.before.now) step.now.events.now (members step.now.after.now) }
-        requires news { AreNews self.now step.now.new.now (members step.now.happened.now) (members step.now.before.now) (members step.now.after.now) step.now.is_changed }
+        requires news { AreNews self.now step.now.events.now step.now.new.now (members step.now.happened.now) (members step.now.before.now) (members step.now.after.now) step.now.touched.now }
         ensures judged { IfOk result (λ found. InState self.now (members step.now.before.now) (λ level trace. IsJudged self.now level trace step.now.events.now found)) }
         ensures allowed { IfOk result (λ found. found ≡ None → ViolateNone self.now (members step.now.happened.now) (members step.now.before.now) (members step.now.after.now)) }
     {

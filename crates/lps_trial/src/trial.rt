@@ -165,20 +165,21 @@ impl Trial {
         ensures events { OnOk result (self.new.events ≡ self.old.events ++ events.now) }
         ensures longer { IsLonger self.old self.new }
     {
-        let is_changed = self.extend(alloc, theory, events)?;
-        self.least_violated(alloc, theory, events, is_changed)
+        let touched = self.extend(alloc, theory, events)?;
+        self.least_violated(alloc, theory, events, touched.as_slice())
     }
 
-    /// The least number of a denial that the events so far violate, of which all but the new ones violate none.
+    /// The least number of a denial that the events so far violate, of which all but the new ones violate none. Only in the touched
+    /// fluents may the state after be another than that which the old ones make.
     fn least_violated(
         &self,
         alloc: Global,
         theory: &Theory,
         new: &[Atom],
-        is_changed: bool,
+        touched: &[Atom],
     ) -> Result<Option<u32>, AllocError>
         requires grown { IsGrown theory.now self.now }
-        requires news { AreNews theory.now new.now (members self.now.happened) (members self.now.state) (members self.now.next) is_changed }
+        requires news { AreNews theory.now self.now.events new.now (members self.now.happened) (members self.now.state) (members self.now.next) touched.now }
         ensures judged { IfOk result (λ found. InState theory.now (members self.now.state) (λ level trace. IsJudged theory.now level trace self.now.events found)) }
         ensures trial { IfOk result (λ found. found ≡ None → IsTrial theory.now self.now) }
     {
@@ -188,36 +189,36 @@ impl Trial {
             new,
             before: &self.state,
             after: &self.next,
-            is_changed,
+            touched,
         };
         theory.least_violated(alloc, &step)
     }
 
-    /// Makes the trial longer by the events and their effects, or by a part of them where memory runs out. False comes where they
-    /// have none.
+    /// Makes the trial longer by the events and their effects, or by a part of them where memory runs out. The fluents that they
+    /// touch are given: in no other one is the state after changed.
     fn extend(
         &mut self,
         alloc: Global,
         theory: &Theory,
         events: &[Atom],
-    ) -> Result<bool, AllocError>
+    ) -> Result<Vec<Atom>, AllocError>
         requires trial { IsTrial theory.now self.now }
         requires events { AreEvents theory.now events.now }
         ensures grown { OnOk result (IsGrown theory.now self.new) }
-        ensures news { IfOk result (λ changed. AreNews theory.now events.now (members self.new.happened) (members self.new.state) (members self.new.next) changed) }
+        ensures news { IfOk result (λ touched. AreNews theory.now self.new.events events.now (members self.new.happened) (members self.new.state) (members self.new.next) touched.items) }
         ensures events { OnOk result (self.new.events ≡ self.old.events ++ events.now) }
         ensures longer { IsLonger self.old self.new }
     {
         theory.lawful();
         let effects = theory.effects(alloc, &self.state, events)?;
         let effects = but_for(alloc, effects, &self.begun)?;
-        let is_changed = are_some(&effects);
         self.begun.insert_all(effects.initiated.as_slice())?;
+        let touched = touched_by(alloc, &effects, &self.next, &self.begun)?;
         push_all(alloc, &mut self.ended, effects.terminated.as_slice())?;
         self.next.apply(effects)?;
         self.happened.insert_all(events)?;
         push_all(alloc, &mut self.events, events)?;
-        Ok(is_changed)
+        Ok(touched)
     }
 
     /// Makes the state after the events the state before, and begins anew without events: nothing that was done until now can be
@@ -281,11 +282,18 @@ fn remove_all(facts: &mut Facts, gone: &[Atom]) -> Result<(), AllocError>
     Ok(())
 }
 
-/// Whether there are any effects.
-fn are_some(effects: &Effects) -> bool
-    ensures { result ≡ false → (effects.now.initiated ≡ []) × (effects.now.terminated ≡ []) }
+/// The fluents that the effects initiate and that are not among the facts, and those that they terminate, but for what has begun.
+fn touched_by(
+    alloc: Global,
+    effects: &Effects,
+    facts: &Facts,
+    begun: &Facts,
+) -> Result<Vec<Atom>, AllocError>
+    ensures { IfOk result (λ touched. touched.items ≡ filter (λ a. not (is_among (members facts.now) a)) effects.now.initiated ++ filter (λ a. not (is_among (members begun.now) a)) effects.now.terminated) }
 {
-    !effects.initiated.is_empty() || !effects.terminated.is_empty()
+    let mut touched = others(alloc, effects.initiated.as_slice(), facts)?;
+    add_others(alloc, effects.terminated.as_slice(), begun, &mut touched)?;
+    Ok(touched)
 }
 
 /// The effects without the terminations of what was begun.
@@ -309,12 +317,25 @@ fn others(alloc: Global, fluents: &[Atom], these: &Facts) -> Result<Vec<Atom>, A
     ensures { IfOk result (λ kept. kept.items ≡ filter (λ a. not (is_among (members these.now) a)) fluents.now) }
 {
     let mut kept = Vec::new(alloc);
+    add_others(alloc, fluents, these, &mut kept)?;
+    Ok(kept)
+}
+
+/// Adds copies of the fluents that are none of these.
+fn add_others(
+    alloc: Global,
+    fluents: &[Atom],
+    these: &Facts,
+    kept: &mut Vec<Atom>,
+) -> Result<(), AllocError>
+    ensures { OnOk result (kept.new.items ≡ kept.old.items ++ filter (λ a. not (is_among (members these.now) a)) fluents.now) }
+{
     for fluent in fluents {
         if !these.contains(fluent) {
             kept.push(copy_atom(alloc, fluent)?)?;
         }
     }
-    Ok(kept)
+    Ok(())
 }
 
 /// Adds copies of these.

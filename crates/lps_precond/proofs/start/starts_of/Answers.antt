@@ -1,12 +1,7 @@
-use Rattle.std.proofs.Common.{sym}
-use Rattle.lps_precond.proofs.Starts.{firsts_more}
+use Rattle.lps_precond.proofs.Starts.{one_start_more}
 use Rattle.lps_precond.proofs.start.starts_of.Goals as goal
 
-pub add_start-requires : goal.add_start-requires
-add_start-requires c = (c.loop-item.item-index, c.loop-item-test.true, sym c.item-item.is)
-
-pub loop-item-preserved : goal.loop-item-preserved
-loop-item-preserved c = (
-  c.in_ok-add_start.ensures.each c.loop-item.invariant.0,
-  firsts_more c.args.items.now c.loop-item.item-index c.item-item.result c.loop-item-test.true c.item-item.is c.loop-item.starts.items c.add_start.new.starts.items c.in_ok-add_start.ensures.firsts c.loop-item.invariant.1,
-)
+pub loop-cond-preserved : goal.loop-cond-preserved
+loop-cond-preserved c =
+    one_start_more c.args.happen.now c.args.conds.now c.loop-cond.cond-index c.cond-item.result c.loop-cond-test.true c.cond-item.is c.loop-cond.starts.items c.push.new.self.items c.in_ok-start_at.field-0
+    c.in_ok-push.ensures.items c.in_ok-start_at.ensures.start c.in_ok-start_at.ensures.first c.loop-cond.invariant

@@ -5,7 +5,6 @@ use Rattle.lps_terms.specs.declared.values.Values.{Values}
 use Rattle.lps_facts.specs.Facts.{members}
 use Rattle.lps_model.specs.Clauses.{clauses}
 use Rattle.lps_precond.specs.Stages.{AreFit, HasOne, IsLeft, vars_of}
-use Rattle.lps_precond.proofs.Alike.{then_both}
 use Rattle.lps_precond.proofs.Stages.{found_count, with_is}
 use Rattle.lps_precond.proofs.denial.Denial.is_violated_with.Goals as goal
 
@@ -16,7 +15,7 @@ pub is_left_by_one-requires-clause-rows : goal.is_left_by_one-requires-clause-ro
 is_left_by_one-requires-clause-rows c =
     let start = c.args.start.now in
     let denial = c.args.self.now in
-    let count = found_count (vars_of start.first.conds) (vars_of denial.happen) start.rest c.requires.start.is.rest_is in
+    let count = found_count c.requires.start.is.shared (vars_of denial.happen) start.rest c.requires.start.is.rest_is in
     subst (λ (values : List Values). AreFit (length (vars_of denial.happen)) (map (λ v. v.0) values)) (sym c.as_slice.ensures.value)
     (subst (λ n. AreFit n (map (λ v. v.0) c.in_ok-rows.rows.items)) count c.in_ok-rows.ensures.each)
 
@@ -24,7 +23,6 @@ pub returns : goal.returns
 returns c =
     let program = clauses c.args.program.now in
     let step = c.args.step.now in
-    let start = c.args.start.now in
     let denial = c.args.self.now in
     let events = members step.happened.now in
     let before = members step.before.now in
@@ -32,7 +30,6 @@ returns c =
     let rows = map (λ v. v.0) c.in_ok-rows.rows.items in
     IfOk-weaker c.is_left_by_one.result _ _
     (λ met are level levels.
-    then_both
-    (subst (λ (values : List Values). (met ≡ true) ↔ HasOne (IsLeft program before after level denial) (map (λ v. v.0) values)) c.as_slice.ensures.value (are level levels))
-    (with_is program events events before after level denial start c.requires.start.is c.args.row.now rows (c.in_ok-rows.ensures.exact level levels)))
+    with_is program events events before after level denial c.args.start.now c.requires.start.is c.args.row.now rows (c.in_ok-rows.ensures.exact level levels) met
+    (subst (λ (values : List Values). (met ≡ true) ↔ HasOne (IsLeft program before after level denial) (map (λ v. v.0) values)) c.as_slice.ensures.value (are level levels)))
     c.is_left_by_one.ensures

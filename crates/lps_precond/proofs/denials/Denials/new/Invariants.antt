@@ -6,4 +6,4 @@ use Rattle.lps_precond.proofs.denials.Denials.new.Given as goal
 
 -- the denials of the statements so far
 abbrev pub invariant-loop-statement : goal.invariant-loop-statement
-invariant-loop-statement l = l.denials.items ≡ map cut (flat_map (λ s. denial_in s.body) (take l.statement-index l.statement-items))
+invariant-loop-statement l = l.denials.items ≡ map (cut l.text) (flat_map (λ s. denial_in s.body) (take l.statement-index l.statement-items))

@@ -7,4 +7,4 @@ use Rattle.lps_precond.proofs.stage.Stage.is_met_by_one.Goals as goal
 pub loop-row-preserved : goal.loop-row-preserved
 loop-row-preserved c = λ level levels.
     no_more (IsMetFrom (clauses c.args.program.now) (members c.args.facts.now) level c.args.self.now) c.args.rows.now c.loop-row.row-index c.row-item.result c.as_slice.result.now c.loop-row-test.true c.row-item.is c.as_slice.ensures
-    c.in_ok-is_met.field-0 c.if-branch.false (c.in_ok-is_met.ensures level levels) (c.loop-row.invariant level levels)
+    c.in_ok-is_met.field-0 c.if-branch.false (c.in_ok-is_met.ensures level levels).1 (c.loop-row.invariant level levels)

@@ -22,6 +22,12 @@ returns-in_err-insert_all-clause-longer c =
     let old : TrialState = record { state = inside.state; next = inside.next; begun = inside.begun; ended = inside.ended.items; events = inside.events.items; happened = inside.happened } in
     longer_from old c.args.self.now _ c.self.view_is refl (later_itself inside.next) c.insert_all.ensures.later (all_taken inside.ended.items) (all_taken inside.events.items) (later_itself inside.happened)
 
+pub returns-in_err-touched-clause-longer : goal.returns-in_err-touched-clause-longer
+returns-in_err-touched-clause-longer c =
+    let inside = c.self.inside in
+    let old : TrialState = record { state = inside.state; next = inside.next; begun = inside.begun; ended = inside.ended.items; events = inside.events.items; happened = inside.happened } in
+    longer_from old c.args.self.now _ c.self.view_is refl (later_itself inside.next) c.insert_all.ensures.later (all_taken inside.ended.items) (all_taken inside.events.items) (later_itself inside.happened)
+
 pub returns-in_err-push_all-clause-longer : goal.returns-in_err-push_all-clause-longer
 returns-in_err-push_all-clause-longer c =
     let inside = c.self.inside in
@@ -70,6 +76,8 @@ returns-clause-news c =
     let old : TrialState = record { state = inside.state; next = inside.next; begun = inside.begun; ended = inside.ended.items; events = inside.events.items; happened = inside.happened } in
     let is : IsTrial c.args.theory.now old = subst (IsTrial c.args.theory.now) (sym c.self.view_is) c.requires.trial in
     let made = c.in_ok-effects-2.effects in
+    let begun_is = c.in_ok-insert_all.ensures.all ∙ ap (λ (atoms : List Atom). with_facts true atoms inside.begun) c.as_slice.ensures in
     news_are c.args.theory.now old is.grown c.args.events.now c.requires.events c.in_ok-effects.effects made c.in_ok-effects.ensures.effects c.in_ok-effects.ensures.fluents.0
-    c.in_ok-effects-2.ensures.initiated c.in_ok-effects-2.ensures.terminated (is.allowed c.lawful.ensures.accepted c.lawful.ensures.formed) inside.state c.apply.new.self c.insert_all-2.new.self
-    refl c.in_ok-apply.ensures.set c.in_ok-insert_all-2.ensures.all c.are_some-is_changed.result c.are_some-is_changed.ensures
+    c.in_ok-effects-2.ensures.initiated c.in_ok-effects-2.ensures.terminated (is.allowed c.lawful.ensures.accepted c.lawful.ensures.formed) c.in_ok-effects.ensures.fluents.1
+    inside.state c.apply.new.self c.insert_all.new.self c.insert_all-2.new.self c.push_all-2.new.all.items c.in_ok-touched.touched.items
+    refl c.in_ok-apply.ensures.set begun_is c.in_ok-insert_all-2.ensures.all c.in_ok-push_all-2.ensures.all c.in_ok-touched.ensures

@@ -12,9 +12,9 @@ returns-clause-judged c =
     let text = c.args.theory.now in
     IfOk-weaker c.least_violated.result _ _
     (λ found judged.
-    subst (λ (es : List Atom). InState text (members c.args.self.now.state) (λ level trace. IsJudged text level trace es found)) c.in_ok-is_changed.ensures.events
+    subst (λ (es : List Atom). InState text (members c.args.self.now.state) (λ level trace. IsJudged text level trace es found)) c.in_ok-touched.ensures.events
     (subst (λ (f : TrailedSet). InState text (members f) (λ level trace. IsJudged text level trace c.extend.new.self.events found)) c.extend.ensures.longer.state judged))
     c.least_violated.ensures.judged
 
 pub returns-clause-events : goal.returns-clause-events
-returns-clause-events c = on_ok c.least_violated.result _ c.in_ok-is_changed.ensures.events
+returns-clause-events c = on_ok c.least_violated.result _ c.in_ok-touched.ensures.events
