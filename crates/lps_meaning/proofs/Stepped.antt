@@ -77,7 +77,7 @@ known_more (x ∷ known) more v e =
     or_true true y e = refl
     or_true false y e = e
 
-with_known : (known : List ℕ) (x v : ℕ) → is_known (with_var known x) v ≡ true → (is_known known v ≡ true) ⊎ (x ≡ v)
+pub with_known : (known : List ℕ) (x v : ℕ) → is_known (with_var known x) v ≡ true → (is_known known v ≡ true) ⊎ (x ≡ v)
 with_known known x v e = by (is_known known x) e
   where
     one : is_known (x ∷ []) v ≡ true → x ≡ v
@@ -118,14 +118,14 @@ own_stepped items v e = elim (stepped items [] v e) [ inl there ↦ absurd (fals
 
 -- ---- what is not refused for a time
 
-among_known : (names : List (List ℕ)) (known : List ℕ) (v : ℕ) (vs : List ℕ) → unknown_among names known (v ∷ vs) ≡ None → (is_known known v ≡ true) × (unknown_among names known vs ≡ None)
+pub among_known : (names : List (List ℕ)) (known : List ℕ) (v : ℕ) (vs : List ℕ) → unknown_among names known (v ∷ vs) ≡ None → (is_known known v ≡ true) × (unknown_among names known vs ≡ None)
 among_known names known v vs e = by (is_known known v) refl e
   where
     by : (held : Bool) → is_known known v ≡ held → (if held then unknown_among names known vs else Some (written names v)) ≡ None → (is_known known v ≡ true) × (unknown_among names known vs ≡ None)
     by true is h = (is, h)
     by false is h = absurd (some_none h)
 
-no_name : (first second : Option (List ℕ)) → option_or first second ≡ None → (first ≡ None) × (second ≡ None)
+pub no_name : (first second : Option (List ℕ)) → option_or first second ≡ None → (first ≡ None) × (second ≡ None)
 no_name None second e = (refl, e)
 no_name (Some name) second e = absurd (some_none e)
 
@@ -203,7 +203,7 @@ statement_steps decls [] e = tt
 statement_steps decls (s ∷ ss) e = let parts = not_refused s.line (body_unknown decls s s.body) (statements_unknown decls ss) e in (parts.0, statement_steps decls ss parts.1)
 
 module _ (text : Text) (accepted : IsAccepted text) where
-  each_statement : AllByRecursion (λ s. body_unknown (declarations text) s s.body ≡ None) text.statements
+  pub each_statement : AllByRecursion (λ s. body_unknown (declarations text) s s.body ≡ None) text.statements
   each_statement =
       statement_steps (declarations text) text.statements
       (neither (order_refusal (kind_of text) text.statements) (unknown_of text) (neither (kind_refusal text) _ accepted.not_refused).1).1

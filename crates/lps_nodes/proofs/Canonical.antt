@@ -82,7 +82,7 @@ abbrev var_in : Term → ℕ
 var_in (Var v) = v
 var_in _ = 0
 
-abbrev number_in : When → ℕ
+abbrev pub number_in : When → ℕ
 number_in (Unknown k) = k
 number_in (Known n) = 0
 
@@ -123,7 +123,7 @@ module _ (g h : Shape) (v v' : ℕ → Term) (x x' : ℕ → When) (there : h �
   vars_renamed : AllByRecursion (λ n. v n ≡ t.Var (var_in (v n))) (shape_vars g)
   vars_renamed = all_to (λ n. put v' (v n) ≡ t.Var n) (λ n. v n ≡ t.Var (var_in (v n))) (λ n e. is_var v' n (v n) e) (shape_vars g) vars_round
 
-  unknowns_renamed : AllByRecursion (λ k. x k ≡ Unknown (number_in (x k))) (shape_unknowns g)
+  pub unknowns_renamed : AllByRecursion (λ k. x k ≡ Unknown (number_in (x k))) (shape_unknowns g)
   unknowns_renamed = all_to (λ k. put_when x' (x k) ≡ Unknown k) (λ k. x k ≡ Unknown (number_in (x k))) (λ k e. is_unknown_time x' k (x k) e) (shape_unknowns g) unknowns_round
 
   abbrev f : ℕ → ℕ

@@ -1,5 +1,5 @@
 -- A walk by a later time comes through a place where a live plan could go on now, or it was over by now.
-use Rattle.std.proofs.Common.{ℕ, ◌≡◌, ◌≤◌, ◌<◌, ◌⊎◌, List, [], ◌∷◌, ◌∙◌, refl, sym, ap, subst, arith, inl, inr}
+use Rattle.std.proofs.Common.{ℕ, suc, ◌≡◌, ◌≤◌, ◌<◌, ◌⊎◌, List, [], ◌∷◌, ◌∙◌, refl, sym, ap, subst, arith, inl, inr}
 use Rattle.std.specs.Prelude.{IsTrue, true, false}
 use Rattle.std.specs.List.{AllByRecursion}
 use Rattle.lps_terms.specs.declared.item.Item.{Item}
@@ -11,6 +11,7 @@ use Rattle.lps_model.specs.Formed.{is_formed}
 use Rattle.lps_meaning.specs.Goals.{AreAllGround, CanGoOn}
 use Rattle.lps_nodes.specs.Alone.{stay}
 use Rattle.lps_nodes.specs.Laws.{ComesThrough, IsOfText, LeadsTo, stage_at}
+use Rattle.lps_nodes.specs.Led.{AreMetNow}
 use Rattle.lps_meaning.specs.Sequences.{Entry, Place, Values, Times, Walk, stop, start, is_call, is_step, AreInOrder, AreLimits, IsAhead, IsSmallSoFar, IsWithin}
 use Rattle.lps_nodes.specs.Shapes.{Sequence, Shape, IsGeneral}
 use Rattle.lps_meaning.proofs.Framing.{accepted_texts_are_framed}
@@ -19,7 +20,7 @@ use Rattle.lps_meaning.proofs.Walks.{in_order, wider}
 use Rattle.lps_nodes.proofs.ConditionLaws.{ended}
 use Rattle.lps_nodes.proofs.LeadingOn.{from_middle}
 
-sooner : (now later : ℕ) (t : ℕ → ℕ) (item : Item) → now ≤ later → IsAhead later t item → IsAhead now t item
+pub sooner : (now later : ℕ) (t : ℕ → ℕ) (item : Item) → now ≤ later → IsAhead later t item → IsAhead now t item
 sooner now later t (i.At lit time) le h = omega arith
 sooner now later t (i.Span a from to) le h = omega arith
 sooner now later t (i.Bare lit) le h = h
@@ -37,12 +38,16 @@ module _ (text : Text) (formed : IsTrue (is_formed text)) (level : List ℕ → 
   ready o rest left =
       subst (λ (e : Entry). (is_step e.item ≡ true) × (is_call text e.item ≡ false) × IsAhead now (t e.env) e.item) (ap (entry_or o) (sym on.is_next ∙ left)) (on.step, no_call, on.ahead)
 
-  -- from what is left of a live plan steps alone lead on
-  pub live_leads : (end : Place) → Walk text level trace q.given_values s t later end middle → IsWithin depth end → (g : Shape) → IsGeneral q s t middle g →
-      LeadsTo text level trace depth later q s t (stage_at now middle g) end
-  live_leads end second within g is =
+  -- from what is left of a live plan steps alone lead on, each of which ends at the next time where they are made by then
+  pub live_leads_on : (end : Place) → Walk text level trace q.given_values s t later end middle → IsWithin depth end → (g : Shape) → IsGeneral q s t middle g →
+      (r : LeadsTo text level trace depth later q s t (stage_at now middle g) end) × (later ≤ suc now → AreMetNow r.steps) × (now < end.before → r.end.before ≡ end.before)
+  live_leads_on end second within g is =
       from_middle text formed level trace depth q of_text s t ground since later (omega arith) now middle (wider text level trace q.given_values s t le first)
       (ended text level trace q.given_values s t first after) ready g is second within
+
+  pub live_leads : (end : Place) → Walk text level trace q.given_values s t later end middle → IsWithin depth end → (g : Shape) → IsGeneral q s t middle g →
+      LeadsTo text level trace depth later q s t (stage_at now middle g) end
+  live_leads end second within g is = (live_leads_on end second within g is).0
 
 module _ (text : Text) (accepted : IsAccepted text) (formed : IsTrue (is_formed text)) (level : List ℕ → ℕ) (trace : Trace) (depth : ℕ) (q : Sequence) (of_text : IsOfText text q) (s : Values) (t : Times)
     (ground : AreAllGround s) (since now later : ℕ) (after : since ≤ now) (le : now ≤ later) (end : Place) (walk : Walk text level trace q.given_values s t later end (start text since q.items))

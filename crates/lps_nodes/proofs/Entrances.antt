@@ -1,7 +1,7 @@
 -- What the entrances of rules and goals give are the nodes of goals, the partly matched antecedents, and the keys of goals.
 use Rattle.std.proofs.Common.{ℕ, true, false, ◌≡◌, List, [], ◌∷◌, ◌∙◌, length, map, refl, sym, ap, subst}
-use Rattle.std.specs.Prelude.{◌↔◌, Contains, Option, Some, None}
-use Rattle.std.specs.List.{AllByRecursion, flat_map}
+use Rattle.std.specs.Prelude.{◌↔◌, Contains, Some, None}
+use Rattle.std.specs.List.{flat_map}
 use Rattle.std.proofs.lemmas.List.Elements.{Contains-append_left}
 use Rattle.lps_terms.specs.declared.body.Body.{Body}
 use Rattle.lps_terms.specs.declared.body.Body.TheVariants as b
@@ -25,11 +25,12 @@ use Rattle.lps_meaning.specs.declared.node.Node.{Node}
 use Rattle.lps_meaning.specs.declared.when.When.{When}
 use Rattle.lps_meaning.specs.declared.when.When.TheVariants.{Known, Unknown}
 use Rattle.lps_meaning.specs.Goals.{HasInstance}
-use Rattle.lps_meaning.specs.Sequences.{Entry, Place, Times, Values, Walk, stop, pass, replace, entries, is_call, start, IsWithin}
+use Rattle.lps_meaning.specs.Sequences.{Place, Times, Values, Walk, stop, pass, replace, is_call, start, IsWithin}
 use Rattle.lps_meaning.proofs.Lists.{of_each}
 use Rattle.lps_nodes.specs.Nodes.{IsGoalNode, IsWaitingNode}
 use Rattle.lps_nodes.specs.Plans.{IsAlternativeEntered, IsEnded, IsNode, Entrance, antecedent_entrance, alternative_entrance, key_carry}
 use Rattle.lps_nodes.specs.Shapes.{all_known}
+use Rattle.lps_nodes.proofs.LedBasics.{HaveNoCalls, entries_no_call}
 use Rattle.lps_nodes.proofs.NodeLaws.{map_two}
 
 true_false : true ≡ false → ⊥
@@ -71,7 +72,7 @@ module _ (text : Text) (accepted : IsAccepted text) (rule : Rule) (of_text : Con
   seen_no_macro k.Derived e = refl
   seen_no_macro k.Macro e = absurd (true_false (sym e))
 
-  item_no_call : (item : Item) → Contains rule.antecedent item → is_call text item ≡ false
+  pub item_no_call : (item : Item) → Contains rule.antecedent item → is_call text item ≡ false
   item_no_call (i.Span a from to) at =
       let line : ℕ = stated.statement.line in
       let o : Occurrence = record { line = line; name = a.name; count = length a.args; place = Seen } in
@@ -85,23 +86,16 @@ module _ (text : Text) (accepted : IsAccepted text) (rule : Rule) (of_text : Con
   item_no_call (i.Built built) at = refl
   item_no_call (i.Con con) at = refl
 
-  abbrev HaveNoCalls : List Entry → Type 0
-  HaveNoCalls = AllByRecursion (λ (e : Entry). is_call text e.item ≡ false)
-
-  entries_no_call : (before : Option Item) (items : List Item) → AllByRecursion (λ item. is_call text item ≡ false) items → HaveNoCalls (entries text 0 0 before items)
-  entries_no_call before [] h = tt
-  entries_no_call before (item ∷ items) h = (h.0, entries_no_call (Some item) items h.1)
-
   module _ (level : List ℕ → ℕ) (trace : Trace) (given : List ℕ) (s : Values) (t : Times) (depth : ℕ) where
-    within_along : {now : ℕ} {end place : Place} → Walk text level trace given s t now end place → HaveNoCalls place.left → IsWithin depth place → IsWithin depth end
+    within_along : {now : ℕ} {end place : Place} → Walk text level trace given s t now end place → HaveNoCalls text place.left → IsWithin depth place → IsWithin depth end
     within_along stop none within = within
-    within_along (pass env nest joins item rest left no_call is_true small placed walk) none within = within_along walk (subst HaveNoCalls left none).1 within
+    within_along (pass env nest joins item rest left no_call is_true small placed walk) none within = within_along walk (subst (HaveNoCalls text) left none).1 within
     within_along (replace e rest a from to number clause left item macro named values times small walk) none within =
-        absurd (true_false (sym macro ∙ sym (ap (is_call text) item) ∙ (subst HaveNoCalls left none).0))
+        absurd (true_false (sym macro ∙ sym (ap (is_call text) item) ∙ (subst (HaveNoCalls text) left none).0))
 
     -- so a walk over an antecedent keeps within every depth
     within_all : (now : ℕ) (end : Place) → Walk text level trace given s t now end (start text 0 rule.antecedent) → IsWithin depth end
-    within_all now end walk = within_along walk (entries_no_call None rule.antecedent (of_each (λ item. is_call text item ≡ false) rule.antecedent item_no_call)) tt
+    within_all now end walk = within_along walk (entries_no_call text None rule.antecedent (of_each (λ item. is_call text item ≡ false) rule.antecedent item_no_call)) tt
 
   -- ---- what is entered
 

@@ -1,5 +1,5 @@
 -- What a walk meets from a place on is met by steps alone on the most general of what is left there.
-use Rattle.std.proofs.Common.{ℕ, suc, Bool, true, false, cond, ◌≡◌, ◌≤◌, ◌+◌, List, [], ◌∷◌, ◌++◌, ◌∙◌, map, refl, sym, ap, subst, arith}
+use Rattle.std.proofs.Common.{ℕ, suc, Bool, true, false, cond, ◌≡◌, ◌≤◌, ◌<◌, ◌+◌, List, [], ◌∷◌, ◌++◌, ◌∙◌, map, refl, sym, ap, subst, arith}
 use Rattle.std.specs.Prelude.{IsTrue, Option, Some, None, reverse, if◌then◌else◌}
 use Rattle.std.specs.List.{AllByRecursion, count_by, flat_map}
 use Rattle.std.proofs.lemmas.List.{map-append, reverse-append}
@@ -25,6 +25,7 @@ use Rattle.lps_nodes.specs.Conditions.{IsLeftPlaced, IsLeftSmall, goes_on, left_
 use Rattle.lps_meaning.specs.Goals.{AreAllGround}
 use Rattle.lps_meaning.specs.Items.{put_item, IsSmallItem}
 use Rattle.lps_nodes.specs.Laws.{IsOfText, LeadsTo, stage_at}
+use Rattle.lps_nodes.specs.Led.{AreMetNow}
 use Rattle.lps_model.specs.Rules.{MacroClause, clauses_of, is_macro, kind_of, numbered}
 use Rattle.lps_meaning.specs.Sequences.{Entry, Link, Place, Values, Times, Walk, stop, pass, replace, start, entries, passed, replaced, link_at, is_call, is_step, rank, done, starts_group, HasSameTimes, HasSameValues, IsAhead, IsPlaced, IsSmallSoFar, IsSpanPlaced, IsTrueItem, IsWithin}
 use Rattle.lps_nodes.specs.Shapes.{Sequence, Shape, left_of, left_at, all_known, IsGeneral}
@@ -33,6 +34,7 @@ use Rattle.lps_nodes.proofs.Cleaning.{clean_item, clean_put_item, clean_stays, c
 use Rattle.lps_nodes.proofs.ConditionLaws.{AreMarked, EndedAt, ShowsLast, TimesAre, equal_flags, false_true, first_placed, first_unmarked, item_or, linked, marked, marked_behind_call, marked_joined, marked_none, marked_shows, none_some, shows_nothing, shows_span, some_entry, span_marked, together_ends}
 use Rattle.lps_nodes.proofs.Existence.{pass_none}
 use Rattle.lps_meaning.proofs.Formed.{IsFormedItem}
+use Rattle.lps_nodes.proofs.MetNow.{is_met_now, met_all}
 use Rattle.lps_nodes.proofs.Lifting.{formed_along, fresh_along, sequence_formed, start_formed, walk_then}
 use Rattle.lps_nodes.proofs.NodeLaws.{left_from, left_is, small_first, times_are, y}
 use Rattle.lps_nodes.proofs.Reaching.{step_pass, step_unfold}
@@ -63,9 +65,15 @@ pub rank_more : (text : Text) (place : Place) (link : Link) (rest : List Entry) 
 rank_more text place link rest =
     ap (map (λ (x : Link). x.number)) (reverse-append (link ∷ []) place.links) ∙ map-append (λ (x : Link). x.number) (reverse place.links) (link ∷ [])
 
+-- an event or action ends one after it begins
+span_one : (b joins : Bool) (before from to : ℕ) → b ≡ false → IsSpanPlaced b joins before from to → to ≡ suc from
+span_one true joins before from to e h = absurd (false_true (sym e))
+span_one false true before from to e h = h.0
+span_one false false before from to e h = h.0
+
 -- ---- what is told
 
-abbrev AreTold : List Left → Type 0
+abbrev pub AreTold : List Left → Type 0
 AreTold = AllByRecursion (λ left. IsToldItem left.item)
 
 told_clean : (c : ℕ → ℕ) (nest : ℕ) (item : Item) → AreTold (left_from (λ v. Known (c v)) nest (clean_item item))
@@ -81,7 +89,7 @@ entry env nest joins item = record { env = env; nest = nest; joins = joins; item
 module _ (text : Text) (formed : IsTrue (is_formed text)) (level : List ℕ → ℕ) (trace : Trace) (depth : ℕ) (q : Sequence) (of_text : IsOfText text q) (s : Values) (t : Times) (ground : AreAllGround s)
     (since later : ℕ) (low : since ≤ later) where
   -- an item of a well-formed text is told by values that are ground and times that are known
-  told_item : (env nest : ℕ) (item : Item) → IsFormedItem item → AreTold (left_of (s env) (all_known t env) nest item)
+  pub told_item : (env nest : ℕ) (item : Item) → IsFormedItem item → AreTold (left_of (s env) (all_known t env) nest item)
   told_item env nest item h =
       let stays : clean_item (put_item (s env) item) ≡ put_item (s env) item =
       clean_put_item h.variables (s env) h.times item h.formed ∙ (λ j. put_item (λ v. clean_stays (s env v) (ground env v) j) item) in
@@ -104,8 +112,10 @@ module _ (text : Text) (formed : IsTrue (is_formed text)) (level : List ℕ → 
     pub shows : ShowsLast text s (all_known t) t (λ k. k) last x.last
     pub ended : (u : Values) (w : ℕ → ℕ → When) (z : ℕ → ℕ) → EndedAt text u w t z x.before x.last
 
+  -- steps from the next stage on are steps from this one on, each of which ends at this time where the first of them does
   abbrev GoesTo : Stage → Place → Type 0
-  GoesTo x place = (next : Stage) × Standing place next × ((z : Stage) → Alone text level trace depth later z next → Alone text level trace depth later z x)
+  GoesTo x place = (next : Stage) × Standing place next
+      × ((z : Stage) → Alone text level trace depth later z next → (more : Alone text level trace depth later z x) × (later ≤ next.before → AreMetNow more))
 
   module _ (place : Place) (x : Stage) (here : Reached place x) where
     abbrev is : IsGeneral q s t place x.shape
@@ -151,7 +161,7 @@ module _ (text : Text) (formed : IsTrue (is_formed text)) (level : List ℕ → 
             shows = shows_nothing text s (all_known t) t (λ k. k) o (i.Con con) x.last item refl;
             ended = stands.ended;
           },
-          λ z steps. steps,
+          λ z steps. (steps, λ le. met_all text level trace later depth steps le),
         )
           where
             end_same : o.item ≡ i.Con con → beyond.before ≡ place.before
@@ -177,8 +187,11 @@ module _ (text : Text) (formed : IsTrue (is_formed text)) (level : List ℕ → 
                 shows = shows;
                 ended = ended;
               },
-              λ z steps. meet first (flat_map (left_at is.values is.whens) rest) met step.0 spelled told_met.0 left_true left_small left_placed
-                  (subst (λ ls. PassesTo ls x.shape step.0) is_met step.1) steps,
+              λ z steps. (
+                meet first (flat_map (left_at is.values is.whens) rest) met step.0 spelled told_met.0 left_true left_small left_placed
+                    (subst (λ ls. PassesTo ls x.shape step.0) is_met step.1) steps,
+                λ le. (is_met_now text level trace later x.before met.item told_met.0 left_true le, met_all text level trace later depth steps le),
+              ),
             )
 
     -- ---- by items
@@ -261,8 +274,11 @@ module _ (text : Text) (formed : IsTrue (is_formed text)) (level : List ℕ → 
             shows = λ p b begin finish same span. absurd (none_some same);
             ended = ended;
           },
-          λ z steps. enter first (flat_map (left_at is.values is.whens) rest) (put_atom (is.values o.env) a) (is.whens o.env from.0) (is.whens o.env to.0) number clause step.0 spelled refl macro nest
-              named left_small.0 step.1 steps,
+          λ z steps. (
+            enter first (flat_map (left_at is.values is.whens) rest) (put_atom (is.values o.env) a) (is.whens o.env from.0) (is.whens o.env to.0) number clause step.0 spelled refl macro nest
+                named left_small.0 step.1 steps,
+            λ le. met_all text level trace later depth steps le,
+          ),
         )
 
   -- ---- along a walk
@@ -314,12 +330,16 @@ module _ (text : Text) (formed : IsTrue (is_formed text)) (level : List ℕ → 
         (goes env nest joins a from to rest left no_call placed)
         (subst (λ n. IsSpanPlaced (is_macro (kind_of text a.name)) joins n (t env from.0) (t env to.0)) (sym stands.before) placed)
 
-  then_leads : (x : Stage) {place end : Place} (g : GoesTo x place) → LeadsTo text level trace depth later q s t g.0 end → LeadsTo text level trace depth later q s t x end
-  then_leads x g more = record { end = more.end; steps = g.2 more.end more.steps; at = more.at; general = more.general }
+  -- steps lead to the place, the last of which ended when the last one of the walk did
+  abbrev Leads : Stage → Place → Type 0
+  Leads x end = (r : LeadsTo text level trace depth later q s t x end) × (r.end.before ≡ end.before)
 
-  along : {end place : Place} → Walk text level trace q.given_values s t later end place → IsWithin depth end → (x : Stage) → Standing place x → LeadsTo text level trace depth later q s t x end
+  then_leads : (x : Stage) {place end : Place} (g : GoesTo x place) → Leads g.0 end → Leads x end
+  then_leads x g more = (record { end = more.0.end; steps = (g.2 more.0.end more.0.steps).0; at = more.0.at; general = more.0.general }, more.1)
+
+  along : {end place : Place} → Walk text level trace q.given_values s t later end place → IsWithin depth end → (x : Stage) → Standing place x → Leads x end
   along stop within x stands =
-      record { end = x; steps = stay; at = record { within = within; of_rank = stands.reached.of_rank; of_done = stands.reached.of_done }; general = stands.reached.general }
+      (record { end = x; steps = stay; at = record { within = within; of_rank = stands.reached.of_rank; of_done = stands.reached.of_done }; general = stands.reached.general }, stands.before)
   along {place = place} (pass env nest joins item rest left no_call is_true small placed walk) within x stands =
       let g = onward place x stands env nest joins item rest left no_call is_true small placed in then_leads x g (along walk within g.0 g.1)
   along {place = place} (replace o rest a from to number clause left item macro named values times small walk) within x stands =
@@ -330,7 +350,7 @@ module _ (text : Text) (formed : IsTrue (is_formed text)) (level : List ℕ → 
   -- ---- from the start, and from a place where the next step is ahead
 
   pub from_start : {end : Place} → Walk text level trace q.given_values s t later end (start text since q.items) → IsWithin depth end → (g : Shape) → IsGeneral q s t (start text since q.items) g →
-      LeadsTo text level trace depth later q s t (stage_at since (start text since q.items) g) end
+      Leads (stage_at since (start text since q.items) g) end
   from_start walk within g is =
       along walk within (stage_at since (start text since q.items) g) (record {
         reached = record { so_far = stop; general = is; of_rank = refl; of_done = refl };
@@ -353,12 +373,27 @@ module _ (text : Text) (formed : IsTrue (is_formed text)) (level : List ℕ → 
     marks : (last : Option Entry) × AreMarked text last middle.left
     marks = marked text level trace q.given_values s t so_far None (marked_none text 0 0 q.items None)
 
-    pub from_middle : {end : Place} → Walk text level trace q.given_values s t later end middle → IsWithin depth end → LeadsTo text level trace depth later q s t first_stage end
-    from_middle stop within = record { end = first_stage; steps = stay; at = record { within = within; of_rank = refl; of_done = refl }; general = is }
+    -- those steps end at the next time, where they are made by then
+    abbrev LeadsOn : Place → Type 0
+    LeadsOn end = (r : LeadsTo text level trace depth later q s t first_stage end) × (later ≤ suc now → AreMetNow r.steps) × (now < end.before → r.end.before ≡ end.before)
+
+    first_step : {place end : Place} (g : GoesTo first_stage place) → Leads g.0 end → suc now ≤ place.before → LeadsOn end
+    first_step {place = place} g more le = (
+      record { end = more.0.end; steps = (g.2 more.0.end more.0.steps).0; at = more.0.at; general = more.0.general },
+      λ soon. (g.2 more.0.end more.0.steps).1 (let same : g.0.before ≡ place.before = g.1.before in omega (arith, same)),
+      λ lt. more.1,
+    )
+
+    pub from_middle : {end : Place} → Walk text level trace q.given_values s t later end middle → IsWithin depth end → LeadsOn end
+    from_middle stop within = (
+      record { end = first_stage; steps = stay; at = record { within = within; of_rank = refl; of_done = refl }; general = is },
+      λ soon. tt,
+      λ lt. absurd (omega arith),
+    )
     from_middle (pass env nest joins (i.At lit time) rest left no_call is_true small placed walk) within =
         let ahead = (ready (entry env nest joins (i.At lit time)) rest left).2 in
         let g = met_at middle first_stage first_reached env nest joins rest lit time left is_true small placed (subst (AreMarked text marks.0) left marks.1).1 (omega (arith, ahead)) in
-        then_leads first_stage g (along walk within g.0 g.1)
+        first_step g (along walk within g.0 g.1) ahead
     from_middle (pass env nest joins (i.Span a from to) rest left no_call is_true small placed walk) within =
         let o : Entry = entry env nest joins (i.Span a from to) in
         let ahead = (ready o rest left).2 in
@@ -367,7 +402,8 @@ module _ (text : Text) (formed : IsTrue (is_formed text)) (level : List ℕ → 
         let placed_now = first_placed text s (all_known t) t (λ k. k) middle.before now o (i.Span a from to) refl ahead placed in
         let g = met_span middle first_stage first_reached env nest joins rest a from to left no_call is_true small placed marked_left.1 unmarked
         (subst (λ b. IsSpanPlaced (is_macro (kind_of text a.name)) b now (t env from.0) (t env to.0)) (sym unmarked) placed_now) in
-        then_leads first_stage g (along walk within g.0 g.1)
+        let one = span_one (is_macro (kind_of text a.name)) joins middle.before (t env from.0) (t env to.0) no_call placed in
+        first_step g (along walk within g.0 g.1) (omega (arith, ahead, one))
       where
         is_false : (b : Bool) → (b ≡ true → ⊥) → b ≡ false
         is_false true h = absurd (h refl)

@@ -243,10 +243,12 @@ module _ (text : Text) (formed : IsTrue (is_formed text)) (level : List ℕ → 
   here_fresh : IsFresh text q s t ground end
   here_fresh = fresh_along text q s t ground level trace walk (fresh_start text q s t ground level trace since q.items)
 
-  -- and the entry is then what it was under the values and times that made it true
+  -- the entry is then what it was under the values and times that made it true, so are those passed before, and the walk goes on past it
   pub lift_pass_as : is_call text next.item ≡ false → (f : ℕ → Term) (c : ℕ → ℕ) → ((v : ℕ) → IsTrue (is_ground (f v))) → IsTrueItem text level trace later c (put_item f next.item) →
       IsSmallItem (put_item f next.item) → IsPlaced text c end.before next.joins next.item → (h : Shape) → PassesTo (left_of f (λ v. Known (c v)) next.nest next.item) g h →
       (walked : IsWalked text level trace q s t since later (λ times. passed times end next rest) h) × (left_at walked.values (all_known walked.times) next ≡ left_of f (λ v. Known (c v)) next.nest next.item)
+      × AllByRecursion (SameEntry s walked.values t walked.times) end.past
+      × Walk text level trace q.given_values walked.values walked.times later (passed walked.times end next rest) end
   lift_pass_as no_call f c f_ground is_true small placed h step =
       let u1 : Values = λ e. after step.v (is.values e) in
       let w1 : Whens = λ e. after_when step.x (is.whens e) in
@@ -258,7 +260,11 @@ module _ (text : Text) (formed : IsTrue (is_formed text)) (level : List ℕ → 
       let whens : Times = times q s t ground end u1 w1 possible here_formed in
       let own = told_clean q s t ground end u1 w1 possible here_formed f c f_ground next.env next.nest next.item next_formed told in
       let item = item_moved (λ e. f) vals (λ e. c) whens next.env next.nest next.item (sym own) in
-      let grounds : AreAllGround vals = values_ground q s t ground end u1 w1 possible here_formed in (
+      let grounds : AreAllGround vals = values_ground q s t ground end u1 w1 possible here_formed in
+      let past_it : Walk text level trace q.given_values vals whens later (passed whens end next rest) end =
+      pass next.env next.nest next.joins next.item rest left no_call
+      (times_moved (λ e. f) vals (λ e. c) whens text level trace later next.env next.nest next.item (sym own) (subst (IsTrueItem text level trace later c) item is_true))
+      (subst IsSmallItem item small) (placed_moved (λ e. f) vals (λ e. c) whens text next.env next.nest end.before next.joins next.item (sym own) placed) stop in (
         record {
           values = vals;
           times = whens;
@@ -266,14 +272,13 @@ module _ (text : Text) (formed : IsTrue (is_formed text)) (level : List ℕ → 
           same_values = same_values q s t ground end u1 w1 possible here_formed;
           same_times = same_times q s t ground end u1 w1 possible here_formed;
           walk = walk_then (passed whens end next rest)
-              (wider text level trace q.given_values vals whens le (walk_clean q s t ground end u1 w1 possible here_formed text level trace now (start text since q.items) walk))
-              (pass next.env next.nest next.joins next.item rest left no_call
-              (times_moved (λ e. f) vals (λ e. c) whens text level trace later next.env next.nest next.item (sym own) (subst (IsTrueItem text level trace later c) item is_true))
-              (subst IsSmallItem item small) (placed_moved (λ e. f) vals (λ e. c) whens text next.env next.nest end.before next.joins next.item (sym own) placed) stop);
+              (wider text level trace q.given_values vals whens le (walk_clean q s t ground end u1 w1 possible here_formed text level trace now (start text since q.items) walk)) past_it;
           general = pass_general text q vals whens grounds trace end next rest left g h (general_clean q s t ground end u1 w1 possible here_formed g is)
               (subst (λ ls. PassesTo ls g h) (sym own) step);
         },
         own,
+        past_same_entries q s t ground end u1 w1 possible here_formed,
+        past_it,
       )
 
   pub lift_pass : is_call text next.item ≡ false → (f : ℕ → Term) (c : ℕ → ℕ) → ((v : ℕ) → IsTrue (is_ground (f v))) → IsTrueItem text level trace later c (put_item f next.item) →
@@ -290,10 +295,12 @@ module _ (text : Text) (formed : IsTrue (is_formed text)) (level : List ℕ → 
       let same : first.item ≡ shown = ap (item_or first.item) (sym is_first ∙ spelled) in
       subst (λ (it : Item). IsSmallItem (put_item (is.values next.env) it)) (sym item) (subst IsLeftSmall same small)
 
-  pub lift_unfold : (a : Atom) (from to : TimeVar) → next.item ≡ i.Span a from to → is_macro (kind_of text a.name) ≡ true → (number : ℕ) (clause : MacroClause) →
+  pub lift_unfold_as : (a : Atom) (from to : TimeVar) → next.item ≡ i.Span a from to → is_macro (kind_of text a.name) ≡ true → (number : ℕ) (clause : MacroClause) →
       numbered (clauses_of text a.name) number ≡ Some clause → (first : Left) (behind : List Left) → g.rest ≡ first ∷ behind → IsLeftSmall first.item → (h : Shape) → UnfoldsTo text clause g h →
-      IsWalked text level trace q s t since later (λ times. replaced text end (link_at end next a from.0 to.0 number clause) rest) h
-  lift_unfold a from to item macro number clause named first behind is_first small h step =
+      (walked : IsWalked text level trace q s t since later (λ times. replaced text end (link_at end next a from.0 to.0 number clause) rest) h)
+      × AllByRecursion (SameEntry s walked.values t walked.times) end.past
+      × Walk text level trace q.given_values walked.values walked.times later (replaced text end (link_at end next a from.0 to.0 number clause) rest) end
+  lift_unfold_as a from to item macro number clause named first behind is_first small h step =
       let u1 : Values = λ e. after step.v (is.values e) in
       let w1 : Whens = λ e. after_when step.x (is.whens e) in
       let own : Unfolds text clause step.u step.w (shape_of q end u1 w1) h =
@@ -308,27 +315,36 @@ module _ (text : Text) (formed : IsTrue (is_formed text)) (level : List ℕ → 
       let link : Link = link_at end next a from.0 to.0 number clause in
       let link_formed : IsFormedAtom a × IsFormedAtom clause.head = (span_formed a from to (subst IsFormedItem item next_formed), (clause_of text formed a.name number clause named).0) in
       let fresh : IsFresh text q vals whens grounds end = record { first = here_fresh.first; left = here_fresh.left; past = here_fresh.past; links = here_fresh.links } in
-      record {
-        values = vals;
-        times = whens;
-        ground = grounds;
-        same_values = same_values q s t ground end nu nw possible here_formed;
-        same_times = same_times q s t ground end nu nw possible here_formed;
-        walk = walk_then (replaced text end link rest)
-            (wider text level trace q.given_values vals whens le (walk_clean q s t ground end nu nw possible here_formed text level trace now (start text since q.items) walk))
-            (replace next rest a from to number clause left item macro named (link_clean q s t ground end nu nw possible here_formed link link_formed r.0.links.0)
-            (when_clean q s t ground end nu nw possible here_formed link r.0.when_links.0)
-            (record {
-              other = is.values;
-              alike = record {
-                start = same_values q s t ground end nu nw possible here_formed ∙ sym is.possible.values;
-                past = all_two (SameEntry s vals t whens) (λ (e : Entry). left_at is.values is.whens e ≡ left_at s (all_known t) e)
-                    (λ (e : Entry). put_item (vals e.env) e.item ≡ put_item (is.values e.env) e.item)
-                    (λ e here there. sym (item_moved s vals t whens e.env e.nest e.item here) ∙ sym (item_same (is.values e.env) (s e.env) (is.whens e.env) (all_known t e.env) e.nest e.item there))
-                    end.past (past_same_entries q s t ground end nu nw possible here_formed) is.possible.past;
-                links = is.possible.links;
-              };
-              small = first_small a from to item first behind is_first small;
-            }) stop);
-        general = unfold_general text q vals whens grounds trace end next rest left a from to item number clause fresh g h (general_clean q s t ground end nu nw possible here_formed g is) step;
-      }
+      let into_it : Walk text level trace q.given_values vals whens later (replaced text end link rest) end =
+      replace next rest a from to number clause left item macro named (link_clean q s t ground end nu nw possible here_formed link link_formed r.0.links.0)
+      (when_clean q s t ground end nu nw possible here_formed link r.0.when_links.0)
+      (record {
+        other = is.values;
+        alike = record {
+          start = same_values q s t ground end nu nw possible here_formed ∙ sym is.possible.values;
+          past = all_two (SameEntry s vals t whens) (λ (e : Entry). left_at is.values is.whens e ≡ left_at s (all_known t) e)
+              (λ (e : Entry). put_item (vals e.env) e.item ≡ put_item (is.values e.env) e.item)
+              (λ e here there. sym (item_moved s vals t whens e.env e.nest e.item here) ∙ sym (item_same (is.values e.env) (s e.env) (is.whens e.env) (all_known t e.env) e.nest e.item there))
+              end.past (past_same_entries q s t ground end nu nw possible here_formed) is.possible.past;
+          links = is.possible.links;
+        };
+        small = first_small a from to item first behind is_first small;
+      }) stop in (
+        record {
+          values = vals;
+          times = whens;
+          ground = grounds;
+          same_values = same_values q s t ground end nu nw possible here_formed;
+          same_times = same_times q s t ground end nu nw possible here_formed;
+          walk = walk_then (replaced text end link rest)
+              (wider text level trace q.given_values vals whens le (walk_clean q s t ground end nu nw possible here_formed text level trace now (start text since q.items) walk)) into_it;
+          general = unfold_general text q vals whens grounds trace end next rest left a from to item number clause fresh g h (general_clean q s t ground end nu nw possible here_formed g is) step;
+        },
+        past_same_entries q s t ground end nu nw possible here_formed,
+        into_it,
+      )
+
+  pub lift_unfold : (a : Atom) (from to : TimeVar) → next.item ≡ i.Span a from to → is_macro (kind_of text a.name) ≡ true → (number : ℕ) (clause : MacroClause) →
+      numbered (clauses_of text a.name) number ≡ Some clause → (first : Left) (behind : List Left) → g.rest ≡ first ∷ behind → IsLeftSmall first.item → (h : Shape) → UnfoldsTo text clause g h →
+      IsWalked text level trace q s t since later (λ times. replaced text end (link_at end next a from.0 to.0 number clause) rest) h
+  lift_unfold a from to item macro number clause named first behind is_first small h step = (lift_unfold_as a from to item macro number clause named first behind is_first small h step).0

@@ -29,19 +29,19 @@ use Rattle.lps_nodes.specs.Conditions.{IsLeftPlaced, IsLeftSmall, goes_on, left_
 use Rattle.lps_meaning.specs.Items.{put_item, IsSmallItem}
 use Rattle.lps_nodes.specs.Laws.{IsOfText, IsStageAt, IsWalked}
 use Rattle.lps_model.specs.Rules.{MacroClause, clauses_of, is_macro, kind_of, numbered}
-use Rattle.lps_meaning.specs.Sequences.{Entry, Place, Values, Times, Walk, stop, pass, replace, start, entries, passed, replaced, link_at, end_of, is_call, done, rank, starts_group, Link, IsPlaced, IsSpanPlaced, IsTrueItem, IsWithin}
-use Rattle.lps_nodes.specs.Shapes.{Sequence, Shape, Whens, put_left, left_of, left_at, IsGeneral}
+use Rattle.lps_meaning.specs.Sequences.{Entry, Place, Values, Times, Walk, stop, pass, replace, start, entries, passed, replaced, link_at, end_of, is_call, done, rank, starts_group, HasSameTimes, HasSameValues, Link, IsPlaced, IsSpanPlaced, IsTrueItem, IsWithin}
+use Rattle.lps_nodes.specs.Shapes.{Sequence, Shape, Whens, all_known, put_left, left_of, left_at, IsGeneral}
 use Rattle.lps_nodes.specs.Steps.{PassesTo, UnfoldsTo}
 use Rattle.lps_nodes.proofs.Cleaning.{all_stay, clean, clean_atom, clean_built, clean_expr, clean_expr-Apply, clean_expr-Leaf, clean_ground, clean_item, clean_lit, clean_put_item, clean_stays}
 use Rattle.lps_nodes.proofs.Colours.{AreApart, EndsApart, IsColoured, hues}
-use Rattle.lps_nodes.proofs.ConditionLaws.{AreMarked, false_true, item_or, marked_behind_call, marked_joined, marked_none, none_some, over_passed, some_entry}
+use Rattle.lps_nodes.proofs.ConditionLaws.{AreMarked, false_true, item_or, linked, marked_behind_call, marked_joined, marked_none, none_some, over_passed, some_entry}
 use Rattle.lps_nodes.proofs.Existence.{pass_none}
 use Rattle.lps_nodes.proofs.Freshness.{IsNone}
 use Rattle.lps_meaning.proofs.Formed.{IsFormedItem}
 use Rattle.lps_nodes.proofs.LeadingOn.{done_begun, done_plain, rank_more}
-use Rattle.lps_nodes.proofs.Lifting.{IsFormedPlace, formed_along, lift_pass_as, lift_unfold, sequence_formed, start_formed, walk_clean, walk_then}
-use Rattle.lps_nodes.proofs.Moves.{end_moved}
-use Rattle.lps_nodes.proofs.NodeLaws.{left_from, left_is}
+use Rattle.lps_nodes.proofs.Lifting.{IsFormedPlace, formed_along, lift_pass_as, lift_unfold_as, sequence_formed, start_formed, walk_clean, walk_then}
+use Rattle.lps_nodes.proofs.Moves.{SameEntry, end_moved, links_of, moved, past_of}
+use Rattle.lps_nodes.proofs.NodeLaws.{all_two, left_from, left_is}
 use Rattle.lps_nodes.proofs.ShapeLaws.{after_when, closed, left_after, pass_general}
 use Rattle.lps_nodes.proofs.ShownGroups.{AreInstances, becomes_span, goes_with, grouped_spans, instances, never_known, paint}
 use Rattle.lps_meaning.proofs.Lists.{both}
@@ -134,7 +134,7 @@ module _ (text : Text) (level : List ℕ → ℕ) (trace : Trace) (given : List 
 
 -- ---- the first item left
 
-abbrev is_con : Item → Bool
+abbrev pub is_con : Item → Bool
 is_con (i.Con con) = true
 is_con _ = false
 
@@ -143,14 +143,14 @@ is_span (i.Span a from to) = true
 is_span _ = false
 
 -- an entry that is no constraint is one item left
-single : (u : ℕ → Term) (w : ℕ → When) (nest : ℕ) (item : Item) → is_con item ≡ false → (left : Left) × (left_of u w nest item ≡ left ∷ [])
+pub single : (u : ℕ → Term) (w : ℕ → When) (nest : ℕ) (item : Item) → is_con item ≡ false → (left : Left) × (left_of u w nest item ≡ left ∷ [])
 single u w nest (i.At lit time) h = (_, refl)
 single u w nest (i.Bare lit) h = (_, refl)
 single u w nest (i.Built built) h = (_, refl)
 single u w nest (i.Span a from to) h = (_, refl)
 single u w nest (i.Con con) h = absurd (false_true (sym h))
 
-abbrev head_left : Left → List Left → Left
+abbrev pub head_left : Left → List Left → Left
 head_left d [] = d
 head_left d (left ∷ rest) = left
 
@@ -264,7 +264,7 @@ abbrev name_left : LeftItem → List ℕ
 name_left (l.Span a from to) = a.name
 name_left _ = []
 
-span_of : (u : ℕ → Term) (w : ℕ → When) (nest : ℕ) (item : Item) (left : Left) → left_of u w nest item ≡ left ∷ [] → (a : Atom) (from to : When) → left.item ≡ l.Span a from to →
+pub span_of : (u : ℕ → Term) (w : ℕ → When) (nest : ℕ) (item : Item) (left : Left) → left_of u w nest item ≡ left ∷ [] → (a : Atom) (from to : When) → left.item ≡ l.Span a from to →
     (b : Atom) × (begin : TimeVar) × (finish : TimeVar) × (item ≡ i.Span b begin finish) × (a.name ≡ b.name)
 span_of u w nest (i.Span b begin finish) left e a from to is =
     (b, begin, finish, refl, ap name_left (sym is) ∙ ap (λ ls. name_left (item_or left.item ls)) (sym e))
@@ -289,7 +289,7 @@ known_end b (Known m) (Unknown k) h = absurd h
 known_end b (Unknown k) finish h = absurd h
 
 -- the item met last is told
-abbrev IsLastTold : Option LeftItem → Type 0
+abbrev pub IsLastTold : Option LeftItem → Type 0
 IsLastTold None = Unit {0}
 IsLastTold (Some item) = IsToldItem item
 
@@ -301,15 +301,18 @@ abbrev to_in : Item → ℕ
 to_in (i.Span a from to) = to.0
 to_in _ = 0
 
+pub rank_same : (links others : List Link) → links ≡ others → map (λ (link : Link). link.number) (reverse links) ≡ map (λ (link : Link). link.number) (reverse others)
+rank_same links others same = ap (λ ls. map (λ (link : Link). link.number) (reverse ls)) same
+
 -- ---- along steps
 
 module _ (text : Text) (accepted : IsAccepted text) (formed : IsTrue (is_formed text)) (level : List ℕ → ℕ) (trace : Trace) (depth : ℕ) (q : Sequence) (of_text : IsOfText text q) (since later : ℕ)
     (low : since ≤ later) where
   -- a walk by now to the place, where this is the most general shape
-  abbrev IsAt : Values → Times → Place → Shape → Type 0
+  abbrev pub IsAt : Values → Times → Place → Shape → Type 0
   IsAt s t place g = IsWalked text level trace q s t since later (λ times. place) g
 
-  through : (s : Values) (t : Times) (place beyond : Place) (g h : Shape) (at : IsAt s t place g) → IsAt at.values at.times beyond h → IsAt s t beyond h
+  abbrev through : (s : Values) (t : Times) (place beyond : Place) (g h : Shape) (at : IsAt s t place g) → IsAt at.values at.times beyond h → IsAt s t beyond h
   through s t place beyond g h at k = record {
     values = k.values;
     times = k.times;
@@ -320,64 +323,96 @@ module _ (text : Text) (accepted : IsAccepted text) (formed : IsTrue (is_formed 
     general = k.general;
   }
 
+  -- the walk comes to the place through another, up to which all that was passed is the same
+  pub record ComesFrom (s : Values) (t : Times) (middle place : Place) (g : Shape) : Type 0 where
+    pub at : IsAt s t place g
+    pub second : Walk text level trace q.given_values at.values at.times later place middle
+    pub past : AllByRecursion (SameEntry s at.values t at.times) middle.past
+
+  -- one step more, under other values and times
+  abbrev comes_on : (s : Values) (t : Times) (middle place beyond : Place) (g h : Shape) (comes : ComesFrom s t middle place g) (k : IsAt comes.at.values comes.at.times beyond h) →
+      AllByRecursion (SameEntry comes.at.values k.values comes.at.times k.times) place.past → Walk text level trace q.given_values k.values k.times later beyond place → ComesFrom s t middle beyond h
+  comes_on s t middle place beyond g h comes k same step =
+      let u = comes.at.values in
+      let w = comes.at.times in
+      let links = linked text level trace q.given_values k.values k.times k.walk tt tt in
+      record {
+        at = through s t place beyond g h comes.at k;
+        second = walk_then beyond
+            (moved u k.values w k.times text level trace q.given_values (sym k.same_values) comes.second same
+            (links_of k.values k.values k.times k.times text level trace q.given_values (HasSameValues k.values) step links.0)
+            (links_of k.values k.values k.times k.times text level trace q.given_values (HasSameTimes k.times) step links.1)) step;
+        past = all_two (SameEntry s u t w) (SameEntry u k.values w k.times) (SameEntry s k.values t k.times) (λ e here there. here ∙ there) middle.past comes.past
+            (past_of u u w w text level trace q.given_values (SameEntry u k.values w k.times) comes.second same);
+      }
+
   -- behind constraints: the first entry left is the first item left
-  record IsOpened (s : Values) (t : Times) (here : Place) (g : Shape) : Type 0 where
-    place : Place
-    at : IsAt s t place g
-    same : place.before ≡ here.before
-    links : place.links ≡ here.links
-    groups : done place ≡ done here
-    next : Entry
-    rest : List Entry
-    left : place.left ≡ next ∷ rest
-    no_con : is_con next.item ≡ false
+  pub record IsOpened (s : Values) (t : Times) (middle here : Place) (g : Shape) : Type 0 where
+    pub place : Place
+    pub comes : ComesFrom s t middle place g
+    pub same : place.before ≡ here.before
+    pub links : place.links ≡ here.links
+    pub groups : done place ≡ done here
+    pub next : Entry
+    pub rest : List Entry
+    pub left : place.left ≡ next ∷ rest
+    pub no_con : is_con next.item ≡ false
 
   rest_is : (s : Values) (t : Times) (place : Place) (g : Shape) (at : IsAt s t place g) → g.rest ≡ flat_map (left_at at.general.values at.general.whens) place.left
   rest_is s t place g at = ap (λ h. h.rest) at.general.own
 
-  skip_con : (s : Values) (t : Times) (place : Place) (g : Shape) (at : IsAt s t place g) (e : Entry) (es : List Entry) → place.left ≡ e ∷ es → is_con e.item ≡ true → (con_item : Item) → e.item ≡ con_item →
-      (beyond : Place) × IsAt s t beyond g × (beyond.before ≡ place.before) × (beyond.left ≡ es) × (beyond.links ≡ place.links) × (done beyond ≡ done place)
-  skip_con s t place g at e es left con (i.Con con_of) is =
-      let beyond : Place = passed at.times place e es in (
+  skip_con : (s : Values) (t : Times) (middle place : Place) (g : Shape) (comes : ComesFrom s t middle place g) (e : Entry) (es : List Entry) → place.left ≡ e ∷ es → is_con e.item ≡ true → (con_item : Item) → e.item ≡ con_item →
+      (beyond : Place) × ComesFrom s t middle beyond g × (beyond.before ≡ place.before) × (beyond.left ≡ es) × (beyond.links ≡ place.links) × (done beyond ≡ done place)
+  skip_con s t middle place g comes e es left con (i.Con con_of) is =
+      let at = comes.at in
+      let beyond : Place = passed at.times place e es in
+      let past_it : Walk text level trace q.given_values at.values at.times later beyond place =
+      pass e.env e.nest e.joins e.item es left (ap (is_call text) is)
+      (subst (λ (it : Item). IsTrueItem text level trace later (at.times e.env) (put_item (at.values e.env) it)) (sym is) tt)
+      (subst (λ (it : Item). IsSmallItem (put_item (at.values e.env) it)) (sym is) tt)
+      (subst (λ (it : Item). IsPlaced text (at.times e.env) place.before e.joins it) (sym is) tt) stop in (
         beyond,
         record {
-          values = at.values;
-          times = at.times;
-          ground = at.ground;
-          same_values = at.same_values;
-          same_times = at.same_times;
-          walk = walk_then beyond at.walk (pass e.env e.nest e.joins e.item es left (ap (is_call text) is)
-              (subst (λ (it : Item). IsTrueItem text level trace later (at.times e.env) (put_item (at.values e.env) it)) (sym is) tt)
-              (subst (λ (it : Item). IsSmallItem (put_item (at.values e.env) it)) (sym is) tt)
-              (subst (λ (it : Item). IsPlaced text (at.times e.env) place.before e.joins it) (sym is) tt) stop);
-          general = pass_general text q at.values at.times at.ground trace place e es left g g at.general
-              (subst (λ (it : Item). PassesTo (left_of (at.values e.env) (λ v. Known (at.times e.env v)) e.nest it) g g) (sym is) (pass_none g));
+          at = record {
+            values = at.values;
+            times = at.times;
+            ground = at.ground;
+            same_values = at.same_values;
+            same_times = at.same_times;
+            walk = walk_then beyond at.walk past_it;
+            general = pass_general text q at.values at.times at.ground trace place e es left g g at.general
+                (subst (λ (it : Item). PassesTo (left_of (at.values e.env) (λ v. Known (at.times e.env v)) e.nest it) g g) (sym is) (pass_none g));
+          };
+          second = walk_then beyond comes.second past_it;
+          past = comes.past;
         },
         ap (end_of (at.times e.env) place.before) is,
         refl,
         refl,
         done_plain at.times place e es (ap (starts_group e.joins) is),
       )
-  skip_con s t place g at e es left con (i.At lit time) is = absurd (false_true (sym (ap is_con is) ∙ con))
-  skip_con s t place g at e es left con (i.Bare lit) is = absurd (false_true (sym (ap is_con is) ∙ con))
-  skip_con s t place g at e es left con (i.Built built) is = absurd (false_true (sym (ap is_con is) ∙ con))
-  skip_con s t place g at e es left con (i.Span a from to) is = absurd (false_true (sym (ap is_con is) ∙ con))
+  skip_con s t middle place g comes e es left con (i.At lit time) is = absurd (false_true (sym (ap is_con is) ∙ con))
+  skip_con s t middle place g comes e es left con (i.Bare lit) is = absurd (false_true (sym (ap is_con is) ∙ con))
+  skip_con s t middle place g comes e es left con (i.Built built) is = absurd (false_true (sym (ap is_con is) ∙ con))
+  skip_con s t middle place g comes e es left con (i.Span a from to) is = absurd (false_true (sym (ap is_con is) ∙ con))
 
-  skip : (es : List Entry) (s : Values) (t : Times) (place : Place) (g : Shape) → place.left ≡ es → IsAt s t place g → (first : Left) (behind : List Left) → g.rest ≡ first ∷ behind → IsOpened s t place g
-  skip [] s t place g left at first behind e = absurd (nothing (sym (ap (flat_map (left_at at.general.values at.general.whens)) left) ∙ sym (rest_is s t place g at) ∙ e))
+  pub skip : (es : List Entry) (s : Values) (t : Times) (middle place : Place) (g : Shape) → place.left ≡ es → ComesFrom s t middle place g → (first : Left) (behind : List Left) → g.rest ≡ first ∷ behind →
+      IsOpened s t middle place g
+  skip [] s t middle place g left comes first behind e =
+      absurd (nothing (sym (ap (flat_map (left_at comes.at.general.values comes.at.general.whens)) left) ∙ sym (rest_is s t place g comes.at) ∙ e))
     where
       nothing : [] ≡ first ∷ behind → ⊥
       nothing e = cc
-  skip (o ∷ es) s t place g left at first behind e = by (skip es s t) (is_con o.item) refl
+  skip (o ∷ es) s t middle place g left comes first behind e = by (skip es s t middle) (is_con o.item) refl
     where
-      by : ((place : Place) (g : Shape) → place.left ≡ es → IsAt s t place g → (first : Left) (behind : List Left) → g.rest ≡ first ∷ behind → IsOpened s t place g) →
-          (con : Bool) → is_con o.item ≡ con → IsOpened s t place g
+      by : ((place : Place) (g : Shape) → place.left ≡ es → ComesFrom s t middle place g → (first : Left) (behind : List Left) → g.rest ≡ first ∷ behind → IsOpened s t middle place g) →
+          (con : Bool) → is_con o.item ≡ con → IsOpened s t middle place g
       by more true is =
-          let k = skip_con s t place g at o es left is o.item refl in
+          let k = skip_con s t middle place g comes o es left is o.item refl in
           let r = more k.0 g k.3 k.1 first behind e in
           record {
             place = r.place;
-            at = r.at;
+            comes = r.comes;
             same = r.same ∙ k.2;
             links = r.links ∙ k.4;
             groups = r.groups ∙ k.5;
@@ -386,15 +421,38 @@ module _ (text : Text) (accepted : IsAccepted text) (formed : IsTrue (is_formed 
             left = r.left;
             no_con = r.no_con;
           }
-      by more false is = record { place = place; at = at; same = refl; links = refl; groups = refl; next = o; rest = es; left = left; no_con = is }
+      by more false is = record { place = place; comes = comes; same = refl; links = refl; groups = refl; next = o; rest = es; left = left; no_con = is }
 
-  module _ (s : Values) (t : Times) (before : ℕ) (last : Option LeftItem) (told_last : IsLastTold last) (g : Shape) (here : Place) (earlier : here.before ≤ before) (o : IsOpened s t here g) (first : Left) (behind : List Left)
+  -- where no item is left all constraints can be passed
+  pub skip_all : (es : List Entry) (s : Values) (t : Times) (middle place : Place) (g : Shape) → place.left ≡ es → ComesFrom s t middle place g → g.rest ≡ [] →
+      (beyond : Place) × ComesFrom s t middle beyond g × (beyond.left ≡ []) × (beyond.before ≡ place.before) × (beyond.links ≡ place.links)
+  skip_all [] s t middle place g left comes e = (place, comes, left, refl, refl)
+  skip_all (o ∷ es) s t middle place g left comes e = by (skip_all es s t middle) (is_con o.item) refl
+    where
+      nothing : {x : Left} {xs : List Left} → x ∷ xs ≡ [] → ⊥
+      nothing e = cc
+
+      by : ((place : Place) (g : Shape) → place.left ≡ es → ComesFrom s t middle place g → g.rest ≡ [] →
+          (beyond : Place) × ComesFrom s t middle beyond g × (beyond.left ≡ []) × (beyond.before ≡ place.before) × (beyond.links ≡ place.links)) →
+          (con : Bool) → is_con o.item ≡ con → (beyond : Place) × ComesFrom s t middle beyond g × (beyond.left ≡ []) × (beyond.before ≡ place.before) × (beyond.links ≡ place.links)
+      by more true is =
+          let k = skip_con s t middle place g comes o es left is o.item refl in
+          let r = more k.0 g k.3 k.1 e in
+          (r.0, r.1, r.2, r.3 ∙ k.2, r.4 ∙ k.4)
+      by more false is =
+          let u = comes.at.general.values in
+          let w = comes.at.general.whens in
+          let one = single (u o.env) (w o.env) o.nest o.item is in
+          absurd (nothing (sym (ap (λ ls. ls ++ flat_map (left_at u w) es) one.1) ∙ sym (ap (flat_map (left_at u w)) left) ∙ sym (rest_is s t place g comes.at) ∙ e))
+
+  module _ (s : Values) (t : Times) (middle : Place) (before : ℕ) (last : Option LeftItem) (told_last : IsLastTold last) (g : Shape) (here : Place) (earlier : here.before ≤ before) (o : IsOpened s t middle here g)
+      (first : Left) (behind : List Left)
       (is_first : g.rest ≡ first ∷ behind) where
     abbrev place : Place
     place = o.place
 
     abbrev at : IsAt s t place g
-    at = o.at
+    at = o.comes.at
 
     abbrev is : IsGeneral q at.values at.times place g
     is = at.general
@@ -513,9 +571,10 @@ module _ (text : Text) (accepted : IsAccepted text) (formed : IsTrue (is_formed 
               sym (goes_true (is_macro (kind_of text a.0.name)) (goes_on text last first.item) place.before before (c a.1.0) (c a.2.0) (sym (ap (is_call text) a.3) ∙ no_call) le group.0 group.1 as_placed)
           by false plain = sym (not_on plain span)
 
-      -- the walk goes on past the entry
-      past_it : (beyond : Place) × IsAt s t beyond h × (beyond.before ≤ left_end (λ k. 0) before met.item) × (beyond.links ≡ place.links)
-          × (done beyond ≡ done_then (done place) (goes_on text last first.item) met.item)
+      -- the walk goes on past the entry, which is the item met
+      pub past_it : (beyond : Place) × (comes : ComesFrom s t middle beyond h) × (beyond.before ≤ left_end (λ k. 0) before met.item) × (beyond.links ≡ place.links)
+          × (done beyond ≡ done_then (done place) (goes_on text last first.item) met.item) × (left_at comes.at.values (all_known comes.at.times) next ≡ met ∷ [])
+          × (beyond ≡ passed comes.at.times place next o.rest)
       past_it =
           let walked = lift_pass_as text formed level trace q of_text at.values at.times at.ground since later later (omega arith) place at.walk g is next o.rest o.left no_call f c
           (λ v. clean_ground (u1 next.env v)) (met_true text level trace later f c next.nest next.item mets)
@@ -535,51 +594,59 @@ module _ (text : Text) (accepted : IsAccepted text) (formed : IsTrue (is_formed 
           let ends = met_end f c next.nest place.before before next.item met le told_is in
           let same = end_moved (λ env. f) walked.0.values (λ env. c) walked.0.times next.env next.nest place.before next.item (sym walked.1) in (
             beyond,
-            through s t place beyond g h at reached,
+            comes_on s t middle place beyond g h o.comes reached walked.2 walked.3,
             subst (λ n. n ≤ left_end (λ k. 0) before met.item) same ends,
             refl,
             done_next walked.0.times place next o.rest (starts_group next.joins next.item) refl
                 ∙ met_done f c next.nest (done place) next.joins (goes_on text last first.item) next.item met told_is same_flags,
+            walked.1 ∙ told_is,
+            refl,
           )
 
     -- ---- a call is entered
 
-    into_it : (a : Atom) (from to : When) (number : ℕ) (clause : MacroClause) (h : Shape) → first.item ≡ l.Span a from to → is_macro (kind_of text a.name) ≡ true → suc first.nest ≤ depth →
+    pub into_it : (a : Atom) (from to : When) (number : ℕ) (clause : MacroClause) (h : Shape) → first.item ≡ l.Span a from to → is_macro (kind_of text a.name) ≡ true → suc first.nest ≤ depth →
         numbered (clauses_of text a.name) number ≡ Some clause → IsLeftSmall first.item → UnfoldsTo text clause g h →
-        (beyond : Place) × IsAt s t beyond h × (beyond.before ≤ before) × (IsWithin depth place → IsWithin depth beyond) × (rank beyond ≡ rank place ++ number ∷ []) × (done beyond ≡ done place)
+        (beyond : Place) × ComesFrom s t middle beyond h × (beyond.before ≤ before) × (IsWithin depth place → IsWithin depth beyond) × (rank beyond ≡ rank place ++ number ∷ []) × (done beyond ≡ done place)
     into_it a from to number clause h item macro deep named small step =
         let call = span_of (is.values next.env) (is.whens next.env) next.nest next.item first spells_first a from to item in
-        let walked = lift_unfold text formed level trace q of_text at.values at.times at.ground since later later (omega arith) place at.walk g is next o.rest o.left call.0 call.1 call.2 call.3
+        let walked = lift_unfold_as text formed level trace q of_text at.values at.times at.ground since later later (omega arith) place at.walk g is next o.rest o.left call.0 call.1 call.2 call.3
         (subst (λ n. is_macro (kind_of text n) ≡ true) call.4 macro) number clause (subst (λ n. numbered (clauses_of text n) number ≡ Some clause) call.4 named) first behind is_first small h step in
         let beyond : Place = replaced text place (link_at place next call.0 call.1.0 call.2.0 number clause) o.rest in
+        let reached : IsAt at.values at.times beyond h = record {
+          values = walked.0.values;
+          times = walked.0.times;
+          ground = walked.0.ground;
+          same_values = walked.0.same_values;
+          same_times = walked.0.same_times;
+          walk = walked.0.walk;
+          general = walked.0.general;
+        } in
         let nest = nest_is (is.values next.env) (is.whens next.env) next.nest next.item first spells_first in (
           beyond,
-          through s t place beyond g h at walked,
+          comes_on s t middle place beyond g h o.comes reached walked.1 walked.2,
           let same = o.same in omega (arith, same, earlier),
           λ within. (omega (arith, nest, deep), within),
           rank_more text place (link_at place next call.0 call.1.0 call.2.0 number clause) o.rest,
           refl,
         )
 
-  rank_same : (links others : List Link) → links ≡ others → map (λ (link : Link). link.number) (reverse links) ≡ map (λ (link : Link). link.number) (reverse others)
-  rank_same links others same = ap (λ ls. map (λ (link : Link). link.number) (reverse ls)) same
-
-  pub alone_walked : (s : Values) (t : Times) {end x : Stage} → Alone text level trace depth later end x → (here : Place) → IsAt s t here x.shape → IsStageAt depth here x → here.before ≤ x.before →
-      IsLastTold x.last → (beyond : Place) × IsStageAt depth beyond end × IsAt s t beyond end.shape
-  alone_walked s t stay here walked at le told_last = (here, at, walked)
-  alone_walked s t {x = x} (meet first behind met h is_first told met_by small placed step more) here walked at le told_last =
-      let o = skip here.left s t here x.shape refl walked first behind is_first in
-      let r = past_it s t x.before x.last told_last x.shape here le o first behind is_first met h told met_by small placed step in
+  pub alone_walked : (s : Values) (t : Times) (middle : Place) {end x : Stage} → Alone text level trace depth later end x → (here : Place) → ComesFrom s t middle here x.shape → IsStageAt depth here x →
+      here.before ≤ x.before → IsLastTold x.last → (beyond : Place) × IsStageAt depth beyond end × ComesFrom s t middle beyond end.shape × (beyond.before ≤ end.before)
+  alone_walked s t middle stay here walked at earlier told_last = (here, at, walked, earlier)
+  alone_walked s t middle {x = x} (meet first behind met h is_first told met_by small placed step more) here walked at earlier told_last =
+      let o = skip here.left s t middle here x.shape refl walked first behind is_first in
+      let r = past_it s t middle x.before x.last told_last x.shape here earlier o first behind is_first met h told met_by small placed step in
       let links = r.3 ∙ o.links in
-      alone_walked s t more r.0 r.1 (record {
+      alone_walked s t middle more r.0 r.1 (record {
         within = subst (AllByRecursion (λ (link : Link). link.nest ≤ depth)) (sym links) at.within;
         of_rank = at.of_rank ∙ rank_same here.links r.0.links (sym links);
         of_done = ap (λ n. done_then n (goes_on text x.last first.item) met.item) (at.of_done ∙ sym o.groups) ∙ sym r.4;
       }) r.2 told
-  alone_walked s t {x = x} (enter first behind a from to number clause h is_first item macro deep named small step more) here walked at le told_last =
-      let o = skip here.left s t here x.shape refl walked first behind is_first in
-      let r = into_it s t x.before x.last told_last x.shape here le o first behind is_first a from to number clause h item macro deep named small step in
-      alone_walked s t more r.0 r.1 (record {
+  alone_walked s t middle {x = x} (enter first behind a from to number clause h is_first item macro deep named small step more) here walked at earlier told_last =
+      let o = skip here.left s t middle here x.shape refl walked first behind is_first in
+      let r = into_it s t middle x.before x.last told_last x.shape here earlier o first behind is_first a from to number clause h item macro deep named small step in
+      alone_walked s t middle more r.0 r.1 (record {
         within = r.3 (subst (AllByRecursion (λ (link : Link). link.nest ≤ depth)) (sym o.links) at.within);
         of_rank = ap (λ ns. ns ++ number ∷ []) (at.of_rank ∙ rank_same here.links o.place.links (sym o.links)) ∙ sym r.4;
         of_done = at.of_done ∙ sym o.groups ∙ sym r.5;

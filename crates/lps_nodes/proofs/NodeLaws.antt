@@ -3,6 +3,8 @@
 use Rattle.std.proofs.Common.{ℕ, Bool, true, false, ◌≡◌, ◌≤◌, List, [], ◌∷◌, ◌++◌, ◌∙◌, map, refl, sym, ap, subst}
 use Rattle.std.specs.Prelude.{pos, ◌+ℤ◌, Option, Some, None}
 use Rattle.std.specs.List.{AllByRecursion, flat_map}
+use Rattle.lps_terms.specs.declared.atom.Atom.{Atom}
+use Rattle.lps_terms.specs.declared.time_var.TimeVar.{TimeVar}
 use Rattle.lps_terms.specs.declared.item.Item.{Item}
 use Rattle.lps_terms.specs.declared.item.Item.TheVariants as i
 use Rattle.lps_terms.specs.declared.term.Term.{Term}
@@ -17,11 +19,12 @@ use Rattle.lps_meaning.specs.declared.node.LeftItem.{LeftItem}
 use Rattle.lps_meaning.specs.declared.node.LeftItem.TheVariants as l
 use Rattle.lps_meaning.specs.declared.when.When.{When}
 use Rattle.lps_meaning.specs.declared.when.When.TheVariants.{Known, Unknown}
-use Rattle.lps_nodes.specs.Conditions.{time_in, AreLeftInOrder, IsLeftLimit, IsLeftSmall, CanComeTrue, ShowsGroup, ShowGroups}
+use Rattle.lps_nodes.specs.Conditions.{time_in, AreLeftInOrder, IsLeftAhead, IsLeftLimit, IsLeftSmall, CanComeTrue, ShowsGroup, ShowGroups}
 use Rattle.lps_meaning.specs.Goals.{AreAllGround, CanGoOn}
 use Rattle.lps_meaning.specs.Items.{put_item, IsSmallItem}
 use Rattle.lps_model.specs.Rules.{kind_of}
 use Rattle.lps_meaning.specs.Sequences.{Entry, Link, Place, Values, Times, Walk, start, AreInOrder, AreLimits, IsLimit, Relates, IsAhead, IsPlaced, AreAlike, IsSmallSoFar, HasSameValues, HasSameTimes, is_step}
+use Rattle.lps_nodes.specs.NextSteps.{IsBegun, MayBegin}
 use Rattle.lps_nodes.specs.Shapes.{Sequence, Shape, Whens, put_when, put_left, put_left_con, put_shape, left_of, left_at, con_of, limits_of, HasSameWhens, all_known, shape_of, IsPossible, IsGeneral}
 use Rattle.lps_nodes.proofs.ConditionLaws.{AreMarked, marked_none, marked, ended, linked, TimesAre, order_there, order_back, first_there, first_back, first_placed, placed_first, end_of_step, shows_there, first_unmarked, some_entry, none_some, false_true}
 use Rattle.lps_nodes.proofs.Moves.{SameEntry, moved, item_in, lit_in, atom_in, built_in}
@@ -136,6 +139,13 @@ limits_back y w items (link ∷ links) own h = (
   items_back y (w link.inner) link.clause.items (all_behind (IsLeftLimit y) (limits_of w links) _ h),
   limits_back y w items links own (all_front (IsLeftLimit y) (limits_of w links) _ h),
 )
+
+-- constraints that are true with known times are those of an instance
+pub limits_of_known : (t : Times) (items : List Item) (links : List Link) → AllByRecursion (IsLeftLimit (λ k. 0)) (flat_map (con_of (all_known t 0)) items ++ limits_of (all_known t) links) → AreLimits t items links
+limits_of_known t items links all =
+    limits_back (λ k. 0) (all_known t) items links
+    (items_back (λ k. 0) (all_known t 0) items (all_front (IsLeftLimit (λ k. 0)) (flat_map (con_of (all_known t 0)) items) (limits_of (all_known t) links) all))
+    (all_behind (IsLeftLimit (λ k. 0)) (flat_map (con_of (all_known t 0)) items) (limits_of (all_known t) links) all)
 
 -- ---- sizes
 
@@ -263,7 +273,7 @@ module _ (text : Text) (level : List ℕ → ℕ) (trace : Trace) (q : Sequence)
   known_whens = all_to (HasSameTimes t) (HasSameWhens (all_known t)) (λ link h. (ap (λ n. Known n) h.0, ap (λ n. Known n) h.1)) end.links links.1
 
   -- the walk's own values and times are possible
-  abbrev possible_own : IsPossible q s t end s (all_known t)
+  abbrev pub possible_own : IsPossible q s t end s (all_known t)
   possible_own = record { values = refl; times = refl; past = all_self (left_at s (all_known t)) end.past; links = links.0; when_links = known_whens }
 
   module _ (g : Shape) (is : IsGeneral q s t end g) where
@@ -273,10 +283,10 @@ module _ (text : Text) (level : List ℕ → ℕ) (trace : Trace) (q : Sequence)
     abbrev w : Whens
     w = is.whens
 
-    abbrev instance_own : (v : ℕ → Term) × (x : ℕ → When) × (shape_of q end s (all_known t) ≡ put_shape v x g)
+    abbrev pub instance_own : (v : ℕ → Term) × (x : ℕ → When) × (shape_of q end s (all_known t) ≡ put_shape v x g)
     instance_own = is.general s (all_known t) possible_own
 
-    abbrev x : ℕ → When
+    abbrev pub x : ℕ → When
     x = instance_own.1
 
     abbrev pub y : ℕ → ℕ
@@ -285,11 +295,14 @@ module _ (text : Text) (level : List ℕ → ℕ) (trace : Trace) (q : Sequence)
     same_shape : shape_of q end (λ e. after instance_own.0 (u e)) (λ e. after_when x (w e)) ≡ shape_of q end s (all_known t)
     same_shape = sym (shape_after text q s t ground end u w instance_own.0 x) ∙ ap (put_shape instance_own.0 x) (sym is.own) ∙ sym instance_own.2
 
+    -- with what is put in for the instance each entry left is that of the instance
+    pub each_own : AllByRecursion (λ e. left_at (λ env. after instance_own.0 (u env)) (λ env. after_when x (w env)) e ≡ left_at s (all_known t) e) end.left
+    each_own = each_same (λ env. after instance_own.0 (u env)) s (λ env. after_when x (w env)) (all_known t) end.left (ap (λ h. h.rest) same_shape)
+
     pub times_are : AllByRecursion (λ e. TimesAre y (w e.env) (t e.env) e.item) end.left
     times_are =
         all_to (λ e. left_at (λ env. after instance_own.0 (u env)) (λ env. after_when x (w env)) e ≡ left_at s (all_known t) e) (λ e. TimesAre y (w e.env) (t e.env) e.item)
-        (λ e h. times_of (after instance_own.0 (u e.env)) (s e.env) (w e.env) x (t e.env) e.nest e.item h) end.left
-        (each_same (λ env. after instance_own.0 (u env)) s (λ env. after_when x (w env)) (all_known t) end.left (ap (λ h. h.rest) same_shape))
+        (λ e h. times_of (after instance_own.0 (u e.env)) (s e.env) (w e.env) x (t e.env) e.nest e.item h) end.left each_own
 
     -- other values that are alike are possible too
     abbrev Alike : Type 0
@@ -331,17 +344,21 @@ module _ (text : Text) (level : List ℕ → ℕ) (trace : Trace) (q : Sequence)
     pub small_first : (e : Entry) (rest : List Entry) → end.left ≡ e ∷ rest → IsSmallSoFar q.given_values s end e → AllByRecursion (λ left. IsLeftSmall left.item) (left_at u w e)
     small_first e rest left = small_one e (subst (AllByRecursion (λ e. (o : Alike) → SameAs o e)) left (all_swap SameAs end.left each_alike)).0
 
+    -- the constraints of the most general shape are true with what the instance gives
+    pub limits_met : AreLimits t q.items end.links → AllByRecursion (IsLeftLimit y) (shape_of q end u w).limits
+    limits_met limits =
+        limits_there x (shape_of q end u w).limits (shape_of q end s (all_known t)).limits
+        (ap (λ h. h.limits) (ap (put_shape instance_own.0 x) (sym is.own) ∙ sym instance_own.2))
+        (all_joined IsTold (flat_map (con_of (all_known t 0)) q.items) (limits_of (all_known t) end.links)
+        (told_items (t 0) q.items (own_limits t q.items end.links limits)) (told_links t q.items end.links limits))
+
     module _ (on : CanGoOn text q.given_values s t now q.items end) where
       all_small : AllByRecursion (λ left. IsLeftSmall left.item) (flat_map (left_at u w) end.left)
       all_small = lefts_small u w end.left (all_two (λ e. (o : Alike) → SameAs o e) (IsSmallSoFar q.given_values s end) (λ e. AllByRecursion (λ left. IsLeftSmall left.item) (left_at u w e))
           small_one end.left (all_swap SameAs end.left each_alike) on.small)
 
       limits_are : AllByRecursion (IsLeftLimit y) (shape_of q end u w).limits
-      limits_are =
-          limits_there x (shape_of q end u w).limits (shape_of q end s (all_known t)).limits
-          (ap (λ h. h.limits) (ap (put_shape instance_own.0 x) (sym is.own) ∙ sym instance_own.2))
-          (all_joined IsTold (flat_map (con_of (all_known t 0)) q.items) (limits_of (all_known t) end.links)
-          (told_items (t 0) q.items (own_limits t q.items end.links on.limits)) (told_links t q.items end.links on.limits))
+      limits_are = limits_met on.limits
 
       abbrev next : Entry
       next = on.next
@@ -391,19 +408,32 @@ module _ (text : Text) (level : List ℕ → ℕ) (trace : Trace) (q : Sequence)
           with_first : ShowGroups text u w None (plain next ∷ on.rest) → ShowGroups text u w None (next ∷ on.rest)
           with_first h = (subst (λ joins. ShowsGroup text joins None (left_at u w next)) (sym unmarked_next) h.0, h.1)
 
+      abbrev first_left : (left : Left) × (left_of (u next.env) (w next.env) next.nest next.item ≡ left ∷ []) × IsLeftAhead now y left.item
+      first_left = first_there text u w t y now next.env next.nest next.item on.step on.ahead times_next.0
+
+      abbrev can_there : CanComeTrue text now (shape_of q end u w)
+      can_there = record {
+        times = y;
+        first = first_left.0;
+        behind = flat_map (left_at u w) on.rest;
+        is_first = ap (flat_map (left_at u w)) on.is_next ∙ ap (λ ls. ls ++ flat_map (left_at u w) on.rest) first_left.1;
+        ahead = first_left.2;
+        in_order = subst (λ es. AreLeftInOrder text y now None (flat_map (left_at u w) es)) (sym on.is_next) in_order_next;
+        limits = limits_are;
+        small = all_small;
+      }
+
       pub can_come_true : CanComeTrue text now g
-      can_come_true =
-          let f = first_there text u w t y now next.env next.nest next.item on.step on.ahead times_next.0 in
-          subst (CanComeTrue text now) (sym is.own) (record {
-            times = y;
-            first = f.0;
-            behind = flat_map (left_at u w) on.rest;
-            is_first = ap (flat_map (left_at u w)) on.is_next ∙ ap (λ ls. ls ++ flat_map (left_at u w) on.rest) f.1;
-            ahead = f.2;
-            in_order = subst (λ es. AreLeftInOrder text y now None (flat_map (left_at u w) es)) (sym on.is_next) in_order_next;
-            limits = limits_are;
-            small = all_small;
-          })
+      can_come_true = subst (CanComeTrue text now) (sym is.own) can_there
+
+      -- where the plan's next step begins now, it may begin now by what is left
+      pub may_begin_there : (a : Atom) (from to : TimeVar) → next.item ≡ i.Span a from to → t next.env from.0 ≡ now → MayBegin text now g
+      may_begin_there a from to item begins =
+          let times : TimesAre y (w next.env) (t next.env) (i.Span a from to) = subst (TimesAre y (w next.env) (t next.env)) item times_next.0 in
+          let shown : left_of (u next.env) (w next.env) next.nest (i.Span a from to) ≡ first_left.0 ∷ [] =
+          subst (λ (it : Item). left_of (u next.env) (w next.env) next.nest it ≡ first_left.0 ∷ []) item first_left.1 in
+          let begun : IsBegun now y first_left.0.item = subst (λ (ls : List Left). IsBegun now y (item_in first_left.0.item ls)) shown (times.0 ∙ begins) in
+          subst (MayBegin text now) (sym is.own) (record { can = can_there; begun = begun })
 
     module _ (next : Entry) (rest : List Entry) (is_next : end.left ≡ next ∷ rest) (step : is_step next.item ≡ true) (can : CanComeTrue text now g) where
       abbrev pub other : Times

@@ -182,7 +182,7 @@ module _ (text : Text) where
 
 -- ---- what an alternative shares stands in its antecedent
 
-all_distinct : (P : ℕ → Type 0) (vs seen : List ℕ) → AllByRecursion P vs → AllByRecursion P (distinct seen vs)
+pub all_distinct : (P : ℕ → Type 0) (vs seen : List ℕ) → AllByRecursion P vs → AllByRecursion P (distinct seen vs)
 all_distinct P [] seen h = tt
 all_distinct P (v ∷ vs) seen h = by (occurs v seen) (all_distinct P vs seen h.1) (all_distinct P vs (v ∷ seen) h.1)
   where

@@ -11,9 +11,12 @@ use Rattle.lps_meaning.specs.declared.node.LeftCon.{LeftCon}
 use Rattle.lps_meaning.specs.declared.when.When.{When}
 use Rattle.lps_meaning.specs.declared.when.When.TheVariants.{Known, Unknown}
 use Rattle.lps_nodes.specs.Alone.{Alone, stay, meet, enter, Stage, with_shape}
+use Rattle.lps_nodes.specs.Conditions.{IsLeftLimit}
+use Rattle.lps_nodes.specs.Led.{AreMetNow}
 use Rattle.lps_nodes.specs.Shapes.{Shape, con_of, is_unknown, put_left_con, put_shape, untested}
 use Rattle.lps_nodes.specs.Steps.{PassesTo, Unfolds, UnfoldsTo, in_front}
 use Rattle.lps_meaning.proofs.Lists.{of_filter}
+use Rattle.lps_meaning.proofs.Occurrences.{all_behind, all_front, all_joined}
 use Rattle.lps_nodes.proofs.NodeLaws.{map_two}
 use Rattle.lps_nodes.proofs.ShapeLaws.{map_append}
 
@@ -29,7 +32,7 @@ true_false : true ≡ false → ⊥
 true_false e = cc
 
 -- a constraint whose times are all known stays as it is
-known_stays : (x : ℕ → When) (con : LeftCon) → is_open con ≡ false → put_left_con x con ≡ con
+pub known_stays : (x : ℕ → When) (con : LeftCon) → is_open con ≡ false → put_left_con x con ≡ con
 known_stays x con none = by con.left con.right refl refl
   where
     by : (left right : When) → con.left ≡ left → con.right ≡ right → put_left_con x con ≡ con
@@ -90,6 +93,43 @@ two_steps z x c one other same h =
     (subst (AllByRecursion (λ con. put_left_con z con ≡ put_left_con c (put_left_con x con))) same (of_filter (λ con. put_left_con z con ≡ put_left_con c (put_left_con x con)) is_open one h)))
     ∙ sym (map_two (put_left_con c) (put_left_con x) other)
 
+-- ---- known constraints that are true
+
+-- the constraint is true, if its times are all known
+abbrev pub IsKnownTrue : LeftCon → Type 0
+IsKnownTrue con = is_open con ≡ false → IsLeftLimit (λ k. 0) con
+
+abbrev pub AreKnownTrue : List LeftCon → Type 0
+AreKnownTrue = AllByRecursion IsKnownTrue
+
+known_back : (x : ℕ → When) (limits : List LeftCon) → AreKnownTrue (map (put_left_con x) limits) → AreKnownTrue limits
+known_back x [] h = tt
+known_back x (con ∷ limits) h =
+    (λ none. subst (IsLeftLimit (λ k. 0)) (known_stays x con none) (h.0 (ap is_open (known_stays x con none) ∙ none)), known_back x limits h.1)
+
+known_open : (x : ℕ → When) (limits : List LeftCon) → AreKnownTrue (map (put_left_con x) limits) → AreKnownTrue (map (put_left_con x) (open_limits limits))
+known_open x [] h = tt
+known_open x (con ∷ limits) h = by (known_open x limits h.1) (is_open con)
+  where
+    by : AreKnownTrue (map (put_left_con x) (open_limits limits)) → (b : Bool) → AreKnownTrue (map (put_left_con x) (cond b (con ∷ open_limits limits) (open_limits limits)))
+    by more true = (h.0, more)
+    by more false = more
+
+known_whole : (x : ℕ → When) (limits : List LeftCon) → AreKnownTrue limits → AreKnownTrue (map (put_left_con x) (open_limits limits)) → AreKnownTrue (map (put_left_con x) limits)
+known_whole x [] known h = tt
+known_whole x (con ∷ limits) known h = by (known_whole x limits known.1) (is_open con) refl h
+  where
+    by : (AreKnownTrue (map (put_left_con x) (open_limits limits)) → AreKnownTrue (map (put_left_con x) limits)) → (b : Bool) → is_open con ≡ b →
+        AreKnownTrue (map (put_left_con x) (cond b (con ∷ open_limits limits) (open_limits limits))) → AreKnownTrue (map (put_left_con x) (con ∷ limits))
+    by more true is h = (h.0, more h.1)
+    by more false is h = (λ none. subst (IsLeftLimit (λ k. 0)) (sym (known_stays x con is)) (known.0 is), more h)
+
+-- where others that differ in known ones are true with these, they are so with something put in
+fit_put : (x : ℕ → When) (one other : List LeftCon) → open_limits one ≡ open_limits other → (AreKnownTrue one → AreKnownTrue other) → AreKnownTrue (map (put_left_con x) one) →
+    AreKnownTrue (map (put_left_con x) other)
+fit_put x one other same fit h =
+    known_whole x other (fit (known_back x one h)) (subst (λ limits. AreKnownTrue (map (put_left_con x) limits)) same (known_open x one h))
+
 -- ---- single steps
 
 module _ (g k : Shape) (same : untested g ≡ untested k) where
@@ -102,7 +142,11 @@ module _ (g k : Shape) (same : untested g ≡ untested k) where
   abbrev rest_to : (v : ℕ → Term) (x : ℕ → When) → (put_shape v x g).rest ≡ (put_shape v x k).rest
   rest_to v x = ap (λ (z : Shape). (put_shape v x z).rest) same
 
-  pub pass_tested : (ls : List Left) (h : Shape) → PassesTo ls g h → (m : Shape) × PassesTo ls k m × (untested h ≡ untested m)
+  -- known constraints of the one that are true with those of the other
+  abbrev Fits : Shape → Shape → Type 0
+  Fits h m = (AreKnownTrue g.limits → AreKnownTrue k.limits) → AreKnownTrue h.limits → AreKnownTrue m.limits
+
+  pub pass_tested : (ls : List Left) (h : Shape) → PassesTo ls g h → (m : Shape) × PassesTo ls k m × (untested h ≡ untested m) × Fits h m
   pass_tested ls h step =
       let own_limits : h.limits ≡ map (put_left_con step.x) g.limits = sym (ap (λ (z : Shape). z.limits) step.own) in
       let m : Shape = record { carry = h.carry; rest = h.rest; limits = map (put_left_con step.x) k.limits } in (
@@ -128,6 +172,7 @@ module _ (g k : Shape) (same : untested g ≡ untested k) where
               (r.0, r.1, λ j. record { carry = (r.2 j).carry; rest = (r.2 j).rest; limits = limits j });
         },
         λ j. record { carry = h.carry; rest = h.rest; limits = (ap open_limits own_limits ∙ open_same step.x g.limits k.limits limits_same) j },
+        λ fit known. fit_put step.x g.limits k.limits limits_same fit (subst AreKnownTrue own_limits known),
       )
     where
       append_none : (limits : List LeftCon) → limits ++ [] ≡ limits
@@ -139,7 +184,7 @@ module _ (g k : Shape) (same : untested g ≡ untested k) where
       by_each z x c e =
           (maps_agree (put_left_con z) (λ con. put_left_con c (put_left_con x con)) g.limits [] [] (ap (λ limits. limits ++ []) (e ∙ map_two (put_left_con c) (put_left_con x) g.limits))).0
 
-  pub unfold_tested : (text : Text) (clause : MacroClause) (h : Shape) → UnfoldsTo text clause g h → (m : Shape) × UnfoldsTo text clause k m × (untested h ≡ untested m)
+  pub unfold_tested : (text : Text) (clause : MacroClause) (h : Shape) → UnfoldsTo text clause g h → (m : Shape) × UnfoldsTo text clause k m × (untested h ≡ untested m) × Fits h m
   unfold_tested text clause h step =
       let body : List LeftCon = flat_map (con_of step.w) clause.items in
       let own_limits : h.limits ≡ map (put_left_con step.x) g.limits ++ body = ap (λ (z : Shape). z.limits) step.own.body in
@@ -187,6 +232,10 @@ module _ (g k : Shape) (same : untested g ≡ untested k) where
           rest = h.rest;
           limits = (ap open_limits own_limits ∙ open_joined (map (put_left_con step.x) g.limits) (map (put_left_con step.x) k.limits) body (open_same step.x g.limits k.limits limits_same)) j;
         },
+        λ fit known.
+            let whole = subst AreKnownTrue own_limits known in
+            all_joined IsKnownTrue (map (put_left_con step.x) k.limits) body
+            (fit_put step.x g.limits k.limits limits_same fit (all_front IsKnownTrue (map (put_left_con step.x) g.limits) body whole)) (all_behind IsKnownTrue (map (put_left_con step.x) g.limits) body whole),
       )
     where
       open_append : (one more : List LeftCon) → open_limits (one ++ more) ≡ open_limits one ++ open_limits more
@@ -203,14 +252,26 @@ module _ (g k : Shape) (same : untested g ≡ untested k) where
 
 -- ---- steps alone
 
-pub alone_tested : (text : Text) (level : List ℕ → ℕ) (trace : Trace) (depth now : ℕ) {end x : Stage} → Alone text level trace depth now end x → (k : Shape) → untested x.shape ≡ untested k →
-    (h : Shape) × Alone text level trace depth now (with_shape end h) (with_shape x k) × (untested end.shape ≡ untested h)
-alone_tested text level trace depth now stay k same = (k, stay, same)
+-- the same items are met, and known constraints are true behind the steps where they are without the others
+pub alone_tested : (text : Text) (level : List ℕ → ℕ) (trace : Trace) (depth now : ℕ) {end x : Stage} (steps : Alone text level trace depth now end x) → (k : Shape) → untested x.shape ≡ untested k →
+    (h : Shape) × (on : Alone text level trace depth now (with_shape end h) (with_shape x k)) × (untested end.shape ≡ untested h) × (AreMetNow steps → AreMetNow on)
+    × ((AreKnownTrue x.shape.limits → AreKnownTrue k.limits) → AreKnownTrue end.shape.limits → AreKnownTrue h.limits)
+alone_tested text level trace depth now stay k same = (k, stay, same, λ met. tt, λ fit. fit)
 alone_tested text level trace depth now {x = x} (meet first behind met h is_first told is_true small placed step more) k same =
     let s = pass_tested x.shape k same (met ∷ []) h step in
-    let r = alone_tested text level trace depth now more s.0 s.2 in
-    (r.0, meet first behind met s.0 (sym (ap (λ (z : Shape). z.rest) same) ∙ is_first) told is_true small placed s.1 r.1, r.2)
+    let r = alone_tested text level trace depth now more s.0 s.2 in (
+      r.0,
+      meet first behind met s.0 (sym (ap (λ (z : Shape). z.rest) same) ∙ is_first) told is_true small placed s.1 r.1,
+      r.2,
+      λ mets. (mets.0, r.3 mets.1),
+      λ fit. r.4 (s.3 fit),
+    )
 alone_tested text level trace depth now {x = x} (enter first behind a from to number clause h is_first item macro deep named small step more) k same =
     let s = unfold_tested x.shape k same text clause h step in
-    let r = alone_tested text level trace depth now more s.0 s.2 in
-    (r.0, enter first behind a from to number clause s.0 (sym (ap (λ (z : Shape). z.rest) same) ∙ is_first) item macro deep named small s.1 r.1, r.2)
+    let r = alone_tested text level trace depth now more s.0 s.2 in (
+      r.0,
+      enter first behind a from to number clause s.0 (sym (ap (λ (z : Shape). z.rest) same) ∙ is_first) item macro deep named small s.1 r.1,
+      r.2,
+      r.3,
+      λ fit. r.4 (s.3 fit),
+    )

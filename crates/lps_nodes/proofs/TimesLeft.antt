@@ -225,11 +225,11 @@ module _ (text : Text) (accepted : IsAccepted text) (level : List ℕ → ℕ) (
 or_left : (x y : Bool) → x ≡ true → (x || y) ≡ true
 or_left x y e = ap (λ b. b || y) e
 
-or_right : (x y : Bool) → y ≡ true → (x || y) ≡ true
+pub or_right : (x y : Bool) → y ≡ true → (x || y) ≡ true
 or_right true y e = refl
 or_right false y e = e
 
-same_number : (n m : ℕ) → (n == m) ≡ true → n ≡ m
+pub same_number : (n m : ℕ) → (n == m) ≡ true → n ≡ m
 same_number n m e = grind (arith, nat_tests)
 
 same_self : (n : ℕ) → (n == n) ≡ true
@@ -281,7 +281,7 @@ alternatives_occur whole (items ∷ alternatives) sub = (
   alternatives_occur whole alternatives (λ v e. sub v (occurs_behind v (flat_map times_of items) (flat_map (flat_map times_of) alternatives) e)),
 )
 
-occurs_filter : (v : ℕ) (test : ℕ → Bool) (xs : List ℕ) → test v ≡ true → occurs v xs ≡ true → occurs v (filter test xs) ≡ true
+pub occurs_filter : (v : ℕ) (test : ℕ → Bool) (xs : List ℕ) → test v ≡ true → occurs v xs ≡ true → occurs v (filter test xs) ≡ true
 occurs_filter v test [] passes e = absurd (false_true e)
 occurs_filter v test (x ∷ xs) passes e = by (occurs_filter v test xs passes) (test x) refl (either (x == v) (occurs v xs) e)
   where
@@ -291,7 +291,7 @@ occurs_filter v test (x ∷ xs) passes e = by (occurs_filter v test xs passes) (
     by more false is (inl here) = absurd (false_true (sym is ∙ ap test (same_number x v here) ∙ passes))
     by more false is (inr later) = more later
 
-occurs_distinct : (v : ℕ) (xs seen : List ℕ) → occurs v xs ≡ true → occurs v seen ≡ false → occurs v (distinct seen xs) ≡ true
+pub occurs_distinct : (v : ℕ) (xs seen : List ℕ) → occurs v xs ≡ true → occurs v seen ≡ false → occurs v (distinct seen xs) ≡ true
 occurs_distinct v [] seen e new = absurd (false_true e)
 occurs_distinct v (x ∷ xs) seen e new = by (λ h. occurs_distinct v xs seen h new) (occurs_distinct v xs (x ∷ seen)) (occurs x seen) refl (x == v) refl
   where

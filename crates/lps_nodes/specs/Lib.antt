@@ -7,3 +7,5 @@ pub mod Alone
 pub mod NextSteps
 pub mod Plans
 pub mod Laws
+pub mod Led
+pub mod LedLaws

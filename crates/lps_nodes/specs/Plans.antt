@@ -2,6 +2,7 @@
 -- then carry, and whether a plan of it is cut; and what becomes of each node in the next cycle.
 use Rattle.std.specs.Prelude.{◌≡◌, ◌↔◌, ℕ, suc, true, false, List, [], map, Some, Contains}
 use Rattle.std.specs.List.Sorted.{IsStrictlySortedBy}
+use Rattle.lps_terms.specs.declared.atom.Atom.{Atom}
 use Rattle.lps_terms.specs.declared.item.Item.{Item}
 use Rattle.lps_terms.specs.declared.term.Term.{Term}
 use Rattle.lps_terms.specs.declared.text.Text.{Text}
@@ -11,7 +12,7 @@ use Rattle.lps_meaning.specs.declared.goal.GoalKey.{GoalKey}
 use Rattle.lps_meaning.specs.declared.node.Carry.{Carry}
 use Rattle.lps_meaning.specs.declared.node.Node.{Node}
 use Rattle.lps_meaning.specs.declared.when.When.TheVariants.{Known}
-use Rattle.lps_meaning.specs.Cycles.{key_cmp}
+use Rattle.lps_meaning.specs.Cycles.{IsNextGroup, key_cmp}
 use Rattle.lps_meaning.specs.Goals.{AreAllGround, CanGoOn, IsGoal}
 use Rattle.lps_meaning.specs.Sequences.{AreLimits, IsWithin, Place, Times, Values, Walk, is_call, start}
 use Rattle.lps_nodes.specs.Nodes.{IsResidual, IsWaitingNode}
@@ -158,6 +159,17 @@ module _ (text : Text) (level : List ℕ → ℕ) (trace : Trace) (depth : ℕ) 
     pub place : Place
     pub cut : IsCutPlan (suc now) values times place
     pub through : IsThrough now (suc now) node values times place
+
+  -- ---- what is proposed now
+
+  -- a live plan that leaves the node has this group as its next step, which begins now
+  pub record Proposes (now : ℕ) (node : Node) (group : List Atom) : Type 0 where
+    pub values : Values
+    pub times : Times
+    pub place : Place
+    pub live : IsLivePlan now values times place
+    pub left : IsLeft values times place node
+    pub next : IsNextGroup text values times now live.on.next live.on.rest group
 
 -- what an antecedent carries to the goal with this key
 abbrev pub key_carry : GoalKey → Carry

@@ -1,6 +1,7 @@
 //! The laws of nodes, as the contracts of functions that do nothing.
 
 ghost use Rattle.lps_nodes.specs.Laws.{CutPlansGoOn, CutsComeFromNodes, EndsComeFromNodes, GeneralAreVariants, GeneralIsReached, GoalNodesAreNodes, HeldNodesGoOn, InstancesGoOn, IntegersServe, IntegersServeBegins, KeysAreEnds, KeysAreUnique, LivePlansGoOn, LivePlansLead, NodesCanComeTrue, NodesComeFromNodes, NodesWait, PassesAreWalked, PlansCanComeTrue, PlansShowGroups, ProposalsAreUnique, ResidualsAreUnique, ResidualsExist, StartIsGeneral, StartsLead, StepsAloneAreWalked, StepsAreGeneral, TestedDoNotMatter, TimesAreLeft, UnfoldingsAreWalked, WaitingNodesAreNodes, WaitingPlansGoOn, WhatCanComeTrueHasPlans};
+ghost use Rattle.lps_nodes.specs.LedLaws.{ActionsAreGround, EnteredAreGiven, NodesAreLedOn, NodesAreLedToCuts, NodesAreLedToEnds, NodesAreResiduals, NodesAreThoseOfPrefix, NodesPropose, NoneIsCutWithoutCalls, StartsAreLedOn, StartsAreLedToCuts, StartsAreLedToEnds};
 
 /// What is left of a sequence: each place of a walk has a most general shape, which single steps reach and lead to. In a
 /// well-formed text a step that is made on such a shape alone is one of a walk, and in an accepted one so are steps that
@@ -52,4 +53,24 @@ pub fn progress_law()
     ensures key_ends { KeysAreEnds }
     ensures keys { KeysAreUnique }
     ensures proposals { ProposalsAreUnique }
+{}
+
+/// What a time gives, told by steps alone, in an accepted and well-formed text: a node goes on to exactly the nodes that steps
+/// which end at the next time lead to from it, and the same is so of what ends and of what is cut there; and a sequence that is
+/// entered gives at its own time exactly what such steps lead to from where it is entered, with what is given put in. A node
+/// proposes exactly the groups of actions that are the next steps of live plans that leave it, which are ground in an
+/// alternative. A plan of a sequence with no macro call is never cut. The nodes of a time depend on the trace up to it alone.
+pub fn led_law()
+    ensures on { NodesAreLedOn }
+    ensures ends { NodesAreLedToEnds }
+    ensures cuts { NodesAreLedToCuts }
+    ensures starts { StartsAreLedOn }
+    ensures starts_end { StartsAreLedToEnds }
+    ensures starts_cut { StartsAreLedToCuts }
+    ensures given { EnteredAreGiven }
+    ensures residuals { NodesAreResiduals }
+    ensures propose { NodesPropose }
+    ensures ground { ActionsAreGround }
+    ensures uncut { NoneIsCutWithoutCalls }
+    ensures prefix { NodesAreThoseOfPrefix }
 {}

@@ -3,7 +3,8 @@
 //! It stands on what rules mean, and never knows of bindings, of unification or of what is carried from cycle to cycle: the
 //! most general of what is left is told by what is possible. It carries the laws that a place has one residual, that single
 //! steps reach it, and that its time conditions have a solution exactly where a plan can go on (`node_law`); and the laws
-//! that the nodes of a time are those that the nodes of the time before go on to (`progress_law`).
+//! that the nodes of a time are those that the nodes of the time before go on to (`progress_law`), and that these are what steps
+//! alone lead to (`led_law`).
 //!
 //! | file of `specs/` | defines |
 //! |---|---|
@@ -14,9 +15,10 @@
 //! | `Alone` | steps made at one time on what is left alone |
 //! | `NextSteps` | whether the next step may begin now, and the group that a node proposes |
 //! | `Plans` | what a sequence gives at a time, and what becomes of each node in the next cycle |
-//! | `Laws` | the laws |
+//! | `Led` | what the steps of one time lead to, told by steps alone |
+//! | `Laws`, `LedLaws` | the laws |
 #![tactic(auto)]
 
 mod laws;
 
-pub use laws::{node_law, progress_law};
+pub use laws::{led_law, node_law, progress_law};

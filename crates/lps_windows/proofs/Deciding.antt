@@ -1,8 +1,9 @@
 -- What is left can come true where its conditions on times have a solution in which its next step begins after now.
-use Rattle.std.proofs.Common.{◌≡◌, ◌≤◌, ℕ, suc, Bool, true, false, List, [], ◌∷◌, ◌++◌, refl, sym, ap, subst, arith}
+use Rattle.std.proofs.Common.{◌≡◌, ◌≤◌, ℕ, suc, Bool, true, false, List, [], ◌∷◌, ◌++◌, ◌∙◌, refl, sym, ap, subst, arith}
 use Rattle.std.specs.Prelude.{Option, Some, None}
 use Rattle.std.specs.List.{AllByRecursion}
 use Rattle.std.proofs.lemmas.Int.{ints}
+use Rattle.lps_terms.specs.declared.atom.Atom.{Atom}
 use Rattle.lps_terms.specs.declared.text.Text.{Text}
 use Rattle.lps_model.specs.Rules.{kind_of, is_macro}
 use Rattle.lps_meaning.specs.declared.node.Left.{Left}
@@ -13,8 +14,9 @@ use Rattle.lps_meaning.specs.declared.when.When.{When}
 use Rattle.lps_meaning.specs.Sequences.{IsSpanPlaced}
 use Rattle.lps_meaning.proofs.Occurrences.{all_front, all_behind, all_joined}
 use Rattle.lps_nodes.specs.Conditions.{AreLeftInOrder, CanComeTrue, IsLeftAhead, IsLeftLimit, IsLeftPlaced, goes_on, left_end, time_in}
-use Rattle.lps_windows.specs.Conditions.{BeginsAt, NoneComeTrue, WindowsDecide, conditions_of, end_of, item_conditions, order_conditions, span_conditions}
-use Rattle.lps_windows.specs.Windows.{CanBe, IsOpenFrom, Solves}
+use Rattle.lps_nodes.specs.NextSteps.{IsBegun, MayBegin}
+use Rattle.lps_windows.specs.Conditions.{BeginsAt, NoneComeTrue, WindowsDecide, WindowsDecideBegins, conditions_of, end_of, item_conditions, order_conditions, span_conditions}
+use Rattle.lps_windows.specs.Windows.{CanBe, IsIn, IsOpenFrom, Solves}
 
 module _ (text : Text) (x : ℕ → ℕ) where
   span_to : (macro joins : Bool) (time from to : When) → IsSpanPlaced macro joins (time_in x time) (time_in x from) (time_in x to) → Solves (span_conditions macro joins (Some time) from to) x
@@ -136,6 +138,10 @@ first_ahead : (now : ℕ) (x : ℕ → ℕ) (rest : List Left) (one first : Left
 unfolding IsFirstAhead
 first_ahead now x rest one first others behind e f ahead = subst (IsFirstAhead now x) f (subst (IsFirstAhead now x) (sym e) ahead)
 
+abbrev left_or : Left → List Left → Left
+left_or d [] = d
+left_or d (left ∷ rest) = left
+
 pub windows_decide : WindowsDecide
 windows_decide text g first behind e begin now earliest begins small window is = (into, back)
   where
@@ -160,3 +166,35 @@ none_come_true text now g none can =
     let start = begins_at text can.times now can.first.item can.ahead in
     let done = all_to text can.times now can.first can.behind g.limits start.0 start.1 start.2 can.ahead (subst (AreLeftInOrder text can.times now None) can.is_first can.in_order) can.limits in
     none can.times (subst (λ rest. Solves (order_conditions text None None rest ++ g.limits) can.times) (sym can.is_first) done.0)
+
+-- a step that begins at a time begins now exactly where the time is now
+begun_at : (now : ℕ) (x : ℕ → ℕ) (atom : Atom) (from to : When) (item : LeftItem) → item ≡ l.Span atom from to → IsBegun now x item → time_in x from ≡ now
+begun_at now x atom from to item is h = subst (IsBegun now x) is h
+
+pub windows_decide_begins : WindowsDecideBegins
+windows_decide_begins text g first behind e atom from to item small now window is = (into, back)
+  where
+    begins : BeginsAt first.item from now now
+    begins = subst (λ (it : LeftItem). BeginsAt it from now now) (sym item) (refl, refl)
+
+    into : MayBegin text now g → IsIn window now
+    into may =
+        let can = may.can in
+        let same : can.first ≡ first = ap (left_or can.first) (sym can.is_first ∙ e) in
+        let done = all_to text can.times now first behind g.limits from now begins (subst (λ (left : Left). IsLeftAhead now can.times left.item) same can.ahead)
+        (subst (AreLeftInOrder text can.times now None) e can.in_order) can.limits in
+        let solves = subst (λ rest. Solves (order_conditions text None None rest ++ g.limits) can.times) (sym e) done.0 in
+        (is.exact now).1 (can.times, solves, begun_at now can.times atom from to first.item item (subst (λ (left : Left). IsBegun now can.times left.item) same may.begun))
+
+    back : IsIn window now → MayBegin text now g
+    back lies = by ((is.exact now).0 lies)
+      where
+        by : CanBe (conditions_of text g) from now → MayBegin text now g
+        by found =
+            let at = found.2 in
+            let done = all_from text found.0 now first behind g.limits from now begins (omega (arith, at))
+            (subst (λ rest. Solves (order_conditions text None None rest ++ g.limits) found.0) e found.1) in
+            record {
+              can = record { times = found.0; first = first; behind = behind; is_first = e; ahead = done.0; in_order = subst (AreLeftInOrder text found.0 now None) (sym e) done.1; limits = done.2; small = small };
+              begun = subst (IsBegun now found.0) (sym item) at;
+            }

@@ -1,6 +1,7 @@
 -- The time conditions of what is left of a sequence, but for that its next step begins after now: conditions on times alone.
 use Rattle.std.specs.Prelude.{◌≡◌, ◌++◌, ◌↔◌, ℕ, suc, pos, Bool, true, false, List, [], ◌∷◌, Option, Some, None}
 use Rattle.std.specs.List.{AllByRecursion}
+use Rattle.lps_terms.specs.declared.atom.Atom.{Atom}
 use Rattle.lps_terms.specs.declared.text.Text.{Text}
 use Rattle.lps_terms.specs.declared.time_rel.TimeRel.TheVariants.{AtMost, Equal}
 use Rattle.lps_model.specs.Rules.{kind_of, is_macro}
@@ -10,9 +11,10 @@ use Rattle.lps_meaning.specs.declared.node.LeftItem.{LeftItem}
 use Rattle.lps_meaning.specs.declared.node.LeftItem.TheVariants as l
 use Rattle.lps_meaning.specs.declared.when.When.{When}
 use Rattle.lps_nodes.specs.Conditions.{CanComeTrue, IsLeftSmall, goes_on}
+use Rattle.lps_nodes.specs.NextSteps.{MayBegin}
 use Rattle.lps_nodes.specs.Shapes.{Shape}
 use Rattle.lps_windows.specs.declared.window.Window.{Window}
-use Rattle.lps_windows.specs.Windows.{HaveNoSolution, IsOpenFrom, IsWindow}
+use Rattle.lps_windows.specs.Windows.{HaveNoSolution, IsIn, IsOpenFrom, IsWindow}
 
 -- one time is no later than another
 abbrev pub no_later : When → When → List LeftCon
@@ -76,3 +78,8 @@ WindowsDecide = (text : Text) (g : Shape) (first : Left) (behind : List Left) �
 -- And where the conditions have no solution it never can.
 abbrev pub NoneComeTrue : Type 0
 NoneComeTrue = (text : Text) (now : ℕ) (g : Shape) → HaveNoSolution (conditions_of text g) → CanComeTrue text now g → ⊥
+
+-- And where the next step is a group or a macro call, it may begin now exactly where now lies in the window of the time that it begins at.
+abbrev pub WindowsDecideBegins : Type 0
+WindowsDecideBegins = (text : Text) (g : Shape) (first : Left) (behind : List Left) → g.rest ≡ first ∷ behind → (atom : Atom) (from to : When) → first.item ≡ l.Span atom from to →
+    AllByRecursion (λ left. IsLeftSmall left.item) g.rest → (now : ℕ) (window : Window) → IsWindow (conditions_of text g) from window → MayBegin text now g ↔ IsIn window now

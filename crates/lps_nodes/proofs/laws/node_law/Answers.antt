@@ -6,13 +6,15 @@ use Rattle.lps_nodes.proofs.ConditionLaws.{ended}
 use Rattle.lps_nodes.proofs.LeadingOn.{from_start}
 use Rattle.lps_nodes.proofs.Lifting.{lift_pass, lift_unfold}
 use Rattle.lps_nodes.proofs.LiftingAlone.{alone_walked}
-use Rattle.lps_nodes.proofs.NodeLaws.{can_come_true, has_plan, show_groups}
+use Rattle.lps_nodes.proofs.NodeLaws.{all_self, can_come_true, has_plan, show_groups}
 use Rattle.lps_nodes.proofs.Numbering.{residual_there}
 use Rattle.lps_nodes.proofs.Reaching.{reach, start_general}
 use Rattle.lps_nodes.proofs.ShapeLaws.{chain_general, variants, fresh_start}
 use Rattle.lps_nodes.proofs.ShownGroups.{accepted_plan}
 use Rattle.lps_nodes.proofs.TimesLeft.{times_left}
+use Rattle.lps_meaning.specs.Sequences.{stop}
 use Rattle.lps_meaning.proofs.Walks.{wider}
+use Rattle.lps_nodes.specs.Shapes.{all_known, left_at}
 use Rattle.lps_nodes.proofs.laws.node_law.Goals as goal
 
 pub returns-clause-steps : goal.returns-clause-steps
@@ -66,21 +68,26 @@ returns-clause-unfoldings c = λ text formed level trace q of_text s t ground si
 
 pub returns-clause-alone : goal.returns-clause-alone
 returns-clause-alone c = λ text accepted formed level trace depth q of_text s t ground since now later low le place walk within g is end steps.
-    alone_walked text accepted formed level trace depth q of_text since later (le_through since now later low le) s t steps place
+    let r = alone_walked text accepted formed level trace depth q of_text since later (le_through since now later low le) s t place steps place
     (record {
-      values = s;
-      times = t;
-      ground = ground;
-      same_values = refl;
-      same_times = refl;
-      walk = wider text level trace q.given_values s t le walk;
-      general = is;
+      at = record {
+        values = s;
+        times = t;
+        ground = ground;
+        same_values = refl;
+        same_times = refl;
+        walk = wider text level trace q.given_values s t le walk;
+        general = is;
+      };
+      second = stop;
+      past = all_self (left_at s (all_known t)) place.past;
     })
-    (record { within = within; of_rank = refl; of_done = refl }) (ended text level trace q.given_values s t walk low) tt
+    (record { within = within; of_rank = refl; of_done = refl }) (ended text level trace q.given_values s t walk low) tt in
+    (r.0, r.1, r.2.at)
 
 pub returns-clause-starts_lead : goal.returns-clause-starts_lead
 returns-clause-starts_lead c = λ text formed level trace depth q of_text s t ground since later low end walk within g is.
-    from_start text formed level trace depth q of_text s t ground since later low walk within g is
+    (from_start text formed level trace depth q of_text s t ground since later low walk within g is).0
 
 pub returns-clause-lead : goal.returns-clause-lead
 returns-clause-lead c = λ text formed level trace depth q of_text s t ground since now later after le middle end first on no_call second within g is.

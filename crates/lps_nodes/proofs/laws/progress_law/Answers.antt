@@ -6,7 +6,7 @@ use Rattle.lps_nodes.proofs.WaitingNodes.{node_can, node_waits}
 use Rattle.lps_nodes.proofs.laws.progress_law.Goals as goal
 
 pub returns-clause-tested : goal.returns-clause-tested
-returns-clause-tested c = λ text level trace depth now end x steps k same. alone_tested text level trace depth now steps k same
+returns-clause-tested c = λ text level trace depth now end x steps k same. let r = alone_tested text level trace depth now steps k same in (r.0, r.1, r.2)
 
 pub returns-clause-nodes_come : goal.returns-clause-nodes_come
 returns-clause-nodes_come c = nodes_come
@@ -24,7 +24,7 @@ pub returns-clause-can : goal.returns-clause-can
 returns-clause-can c = node_can
 
 pub returns-clause-wait : goal.returns-clause-wait
-returns-clause-wait c = node_waits
+returns-clause-wait c = λ text level trace depth e now later after le node n can. node_waits text level trace depth e now later after le node n can
 
 pub returns-clause-goal_nodes : goal.returns-clause-goal_nodes
 returns-clause-goal_nodes c = goal_nodes
