@@ -1,40 +1,18 @@
 //! A text that is read and accepted, and what happens to its initial facts.
 ghost use Rattle.std.specs.Prelude.{◌≡◌, [], true, IfOk, IsTrue};
-ghost use Rattle.lps_model.specs.Formed.{is_formed};
 ghost use Rattle.lps_facts.specs.Facts.{members, with_facts};
 ghost use Rattle.lps_causal.specs.Names.{AreEvents, AreFluents, IsEvent, IsFluent};
 ghost use Rattle.lps_trial.specs.Trial.{IsTrial};
 
-use lps_accept::accept;
 use lps_causal::CausalLaws;
 use lps_facts::Facts;
-use lps_formed::read_texts_are_formed;
 use lps_model::Accepted;
-use lps_reader::{ReadError, read_text};
 use lps_solve::{Program, are_ground};
 use lps_terms::{Atom, Body, Effects, Kind, Text};
+use lps_tests_written::accepted_of;
 use lps_trial::{Theory, Trial};
 use std::alloc::{AllocError, Global};
 use std::test::Fail;
-
-/// Reads bytes as a text, which is then well-formed.
-fn formed_text(alloc: Global, bytes: &[u8]) -> Result<Text, ReadError>
-    ensures { IfOk result (λ text. IsTrue (is_formed text)) }
-{
-    read_texts_are_formed();
-    read_text(alloc, bytes)
-}
-
-/// The text, accepted.
-fn accepted_of(alloc: Global, text: &str) -> Result<Accepted, Fail> {
-    match formed_text(alloc, text.as_bytes()) {
-        Ok(text) => match accept(alloc, text) {
-            Ok(accepted) => Ok(accepted),
-            Err(_) => Err(Fail::from("not accepted")),
-        },
-        Err(_) => Err(Fail::from("not read")),
-    }
-}
 
 /// The program of a text.
 pub fn program_of(alloc: Global, text: &str) -> Result<Box<Program>, Fail> {

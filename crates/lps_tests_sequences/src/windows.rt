@@ -14,7 +14,7 @@ const BEGIN: When = When::Unknown(0);
 
 const END: When = When::Unknown(1);
 
-fn is_time(time: When) -> bool
+pub fn is_time(time: When) -> bool
     ensures { IsTrue result → IsTime 2 time }
 {
     match time {
@@ -23,7 +23,7 @@ fn is_time(time: When) -> bool
     }
 }
 
-fn is_within(condition: &LeftCon) -> bool
+pub fn is_within(condition: &LeftCon) -> bool
     ensures { IsTrue result → IsWithin 2 condition.now }
 {
     is_time(condition.left)

@@ -1,9 +1,34 @@
-//! Terms, atoms and conditions, as a text writes them: variables are numbered from 0 in the order in which they first occur.
-use lps_reader::read_text;
-use lps_terms::{Atom, Body, Cond, Term, print_atom};
+//! Texts, terms, atoms and conditions, as a text writes them: variables are numbered from 0 in the order in which they first occur.
+ghost use Rattle.std.specs.Prelude.{IfOk, IsTrue};
+ghost use Rattle.lps_model.specs.Formed.{is_formed};
+
+use lps_accept::accept;
+use lps_formed::read_texts_are_formed;
+use lps_model::Accepted;
+use lps_reader::{ReadError, read_text};
+use lps_terms::{Atom, Body, Cond, Term, Text, print_atom};
 use sqlite_items::Items;
 use std::alloc::{AllocError, Global};
 use std::test::Fail;
+
+/// Reads bytes as a text, which is then well-formed.
+fn formed_text(alloc: Global, bytes: &[u8]) -> Result<Text, ReadError>
+    ensures { IfOk result (λ text. IsTrue (is_formed text)) }
+{
+    read_texts_are_formed();
+    read_text(alloc, bytes)
+}
+
+/// The text, accepted.
+pub fn accepted_of(alloc: Global, text: &str) -> Result<Accepted, Fail> {
+    match formed_text(alloc, text.as_bytes()) {
+        Ok(text) => match accept(alloc, text) {
+            Ok(accepted) => Ok(accepted),
+            Err(_) => Err(Fail::from("not accepted")),
+        },
+        Err(_) => Err(Fail::from("not read")),
+    }
+}
 
 /// What the last statement of a text says.
 fn body_of(alloc: Global, text: &str) -> Result<Body, Fail> {

@@ -1,0 +1,13 @@
+pub mod Beginning
+pub mod Counting
+pub mod Deciding
+pub mod FirstSeen
+pub mod InRange
+pub mod Knowing
+pub mod Moding
+pub mod Places
+pub mod Readying
+pub mod Renumbering
+pub mod Sorting
+pub mod Timing
+pub mod Waits

@@ -1,0 +1,5 @@
+pub mod Putting
+pub mod Numbered
+pub mod Limits
+pub mod Moments
+pub mod Proposing
