@@ -1,7 +1,8 @@
 -- One step of a pass, and a pass step by step.
-use Rattle.std.proofs.Common.{◌≡◌, ℕ, zero, suc, ◌<◌, ◌≤◌, Bool, true, false, List, [], ◌∷◌, ◌++◌, length, take, sym, ap, subst, ◌∙◌, arith, inl, inr, length-append}
-use Rattle.std.specs.Prelude.{◌||◌, Contains, slice_index_or}
-use Rattle.std.specs.List.{All}
+use Rattle.std.proofs.Common.{◌≡◌, ℕ, zero, suc, ◌<◌, ◌≤◌, ◌+◌, ◌-◌, Bool, true, false, List, [], ◌∷◌, ◌++◌, length, get_or, take, drop, refl, sym, ap, subst, ◌∙◌, arith, inl, inr, add-one, length-append, length-take}
+use Rattle.std.specs.Prelude.{Contains}
+use Rattle.std.proofs.lemmas.List.{drop-append-le, drop-drop, take-append-drop}
+use Rattle.std.specs.List.{All, AllByRecursion}
 use Rattle.std.proofs.lemmas.List.Elements.{All-head, All-tail}
 use Rattle.lps_terms.specs.declared.prefer.Prefer.{Prefer}
 use Rattle.lps_terms.specs.declared.prefer.Prefer.TheVariants.{Oldest, Newest}
@@ -10,12 +11,8 @@ use Rattle.lps_model.specs.declared.cycle.Pick.{Pick}
 use Rattle.lps_model.proofs.Elements.{first_or_later, first_is_contained, later_is_contained, nothing_contained}
 use Rattle.lps_choice.specs.Choices.{Choice, Admits, Refuses, IsPick, Extends, IsPassedOver, pick_of}
 use Rattle.lps_choice.specs.Passes.{IsFirst, IsGiven, Gives, Grows, Pass, AllPasses, last, more, in_order}
-use Rattle.lps_choice.proofs.Extensions.{extends_none, extends_one}
-use Rattle.lps_choice.proofs.Lists.{of_reverse, in_reverse, take_all}
-
-pub in_order_stays : (prefer : Prefer) (goals : List ℕ) (goal : ℕ) → Contains (in_order prefer goals) goal → Contains goals goal
-in_order_stays Oldest goals goal among = among
-in_order_stays Newest goals goal among = of_reverse goals goal among
+use Rattle.lps_choice.proofs.Extensions.{extends_further, extends_none, extends_one}
+use Rattle.lps_choice.proofs.Lists.{all_dropped, all_joined, drop_all, drop_here, in_reverse, take_all, take_here}
 
 pub in_order_has : (prefer : Prefer) (goals : List ℕ) (goal : ℕ) → Contains goals goal → Contains (in_order prefer goals) goal
 in_order_has Oldest goals goal among = among
@@ -30,9 +27,13 @@ carried choice P fixed same made also e d h = subst (λ f. P (choice f) also) e 
 pub of_all : {X : Type 0} (P : X → Type 0) (xs : List X) (n : ℕ) → length xs ≤ n → All P (take n xs) → All P xs
 of_all P xs n past h = subst (All P) (take_all xs n past) h
 
+pub grown : (made all : List Pick) (n : ℕ) → Grows made all n → (n ≡ 0 → ⊥) → length made < length all
+grown made all zero h other = absurd (other refl)
+grown made all (suc n) h other = h
+
 module _ (choice : Choice) where
   -- a proposal that is admitted, where all before it are refused, is the first
-  pub first_at : (made : List Pick) (groups : List Group) (place : ℕ) (group : Group) → place < length groups → slice_index_or groups place group ≡ group →
+  pub first_at : (made : List Pick) (groups : List Group) (place : ℕ) (group : Group) → place < length groups → get_or groups place group ≡ group →
       All (Refuses choice made) (take place groups) → Admits choice made group → IsFirst choice made groups group
   first_at made [] place group lt is refused admitted = absurd (omega arith)
   first_at made (first ∷ groups) zero group lt is refused admitted = inl (sym is, subst (Admits choice made) (sym is) admitted)
@@ -78,12 +79,6 @@ module _ (choice : Choice) where
   step_passes goal goals made middle all true h pass = inr (h.0, h.1, subst (λ m. Pass choice goals m all) h.2 pass)
   step_passes goal goals made middle all false h pass = inl (h.0, subst (λ m. Pass choice goals m all) h.1 pass)
 
-  pub step_grows : (goal : ℕ) (start made all : List Pick) (grown given : Bool) → Grows start made grown → Gives choice goal made all given → Grows start all (grown || given)
-  step_grows goal start made all true true grown h = omega (arith, ap length h.2, length-append made (pick_of goal h.0 ∷ []))
-  step_grows goal start made all true false grown h = omega (arith, ap length h.1)
-  step_grows goal start made all false true grown h = omega (arith, ap length h.2, length-append made (pick_of goal h.0 ∷ []), ap length grown)
-  step_grows goal start made all false false grown h = h.1 ∙ grown
-
   -- a pass takes no pick away
   pass_longer : (goals : List ℕ) (made all : List Pick) → Pass choice goals made all → length made ≤ length all
   pass_longer [] made all h = omega (arith, ap length h)
@@ -106,3 +101,59 @@ module _ (choice : Choice) where
   pub passes_settle : (order : List ℕ) {made all : List Pick} → AllPasses choice order made all → (goal : ℕ) → Contains order goal → IsPassedOver choice all goal
   passes_settle order {made} {all} (last pass same) goal among = subst (λ m. IsPassedOver choice m goal) (sym same) (pass_settles order made pass goal among)
   passes_settle order {made} {all} (more next pass longer rest) goal among = passes_settle order rest goal among
+
+  -- ---- where a pass stands
+
+  pass_of_idle : (made : List Pick) (goals : List ℕ) → AllByRecursion (IsPassedOver choice made) goals → Pass choice goals made made
+  pass_of_idle made [] h = refl
+  pass_of_idle made (goal ∷ goals) h = inl (h.0, pass_of_idle made goals h.1)
+
+  -- A pass over goals has come to a place, and to these picks: a pass over the goals left goes on from there, and those from `end` to the
+  -- place get nothing.
+  pub record Standing (goals : List ℕ) (start now : List Pick) (place end : ℕ) : Type 0 where
+    pub legal : Extends choice start now
+    pub passes : (all : List Pick) → Pass choice (drop place goals) now all → Pass choice goals start all
+    pub grows : Grows start now end
+    pub idle : AllByRecursion (IsPassedOver choice now) (drop end (take place goals))
+    pub within : end ≤ place
+
+  -- where a goal gets a pick
+  pub standing_given : (goals : List ℕ) (start made now : List Pick) (place end : ℕ) → place < length goals → Contains choice.goals (get_or goals place 0) → Standing goals start made place end →
+      Gives choice (get_or goals place 0) made now true → Standing goals start now (place + 1) (place + 1)
+  standing_given goals start made now place end lt pending stands gives =
+      let legal = extends_further choice start made now stands.legal (step_extends (get_or goals place 0) made now true pending gives) in
+      record {
+        legal = legal;
+        passes = λ all pass. stands.passes all
+            (subst (λ gs. Pass choice gs made all) (sym (drop_here goals place 0 lt)) (step_passes (get_or goals place 0) (drop (place + 1) goals) made now all true gives pass));
+        grows = subst (Grows start now) (sym (add-one place))
+            (omega (arith, ap length stands.legal.whole, length-append start stands.legal.more, ap length gives.2, length-append made (pick_of (get_or goals place 0) gives.0 ∷ [])));
+        idle = subst (AllByRecursion (IsPassedOver choice now)) (sym (drop_all (take (place + 1) goals) (place + 1) (omega (arith, length-take (place + 1) goals)))) tt;
+        within = omega arith;
+      }
+
+  -- where a goal gets none
+  pub standing_passed : (goals : List ℕ) (start made now : List Pick) (place end : ℕ) → place < length goals → Standing goals start made place end →
+      Gives choice (get_or goals place 0) made now false → Standing goals start now (place + 1) end
+  standing_passed goals start made now place end lt stands gives = subst (λ m. Standing goals start m (place + 1) end) (sym gives.1) (record {
+    legal = stands.legal;
+    passes = λ all pass. stands.passes all (subst (λ gs. Pass choice gs made all) (sym (drop_here goals place 0 lt)) (inl (gives.0, pass)));
+    grows = stands.grows;
+    idle = subst (AllByRecursion (IsPassedOver choice made))
+        (sym (ap (drop end) (take_here goals place 0 lt) ∙ drop-append-le end (take place goals) (get_or goals place 0 ∷ []) (omega (arith, length-take place goals, stands.within))))
+        (all_joined (IsPassedOver choice made) (drop end (take place goals)) (get_or goals place 0 ∷ []) stands.idle (gives.0, tt));
+    within = omega (arith, stands.within);
+  })
+
+  -- where no pick was made, and the goals from a place before on get nothing, none gets any
+  pub idle_from : (goals : List ℕ) (start now : List Pick) (place asked : ℕ) → Standing goals start now place 0 → asked ≤ place →
+      AllByRecursion (IsPassedOver choice start) (drop asked goals) → AllByRecursion (IsPassedOver choice now) goals
+  idle_from goals start now place asked stands past idle =
+      let left : AllByRecursion (IsPassedOver choice start) (drop place goals) = subst (AllByRecursion (IsPassedOver choice start))
+      (drop-drop (place - asked) asked goals ∙ (let same : asked + (place - asked) ≡ place = omega arith in ap (λ n. drop n goals) same)) (all_dropped (IsPassedOver choice start) (place - asked) (drop asked goals) idle) in
+      subst (AllByRecursion (IsPassedOver choice now)) (take-append-drop place goals)
+      (all_joined (IsPassedOver choice now) (take place goals) (drop place goals) stands.idle (subst (λ m. AllByRecursion (IsPassedOver choice m) (drop place goals)) (sym stands.grows) left))
+
+  -- where the goals left get nothing, the pass is over
+  pub standing_passes : (goals : List ℕ) (start now : List Pick) (place end : ℕ) → Standing goals start now place end → AllByRecursion (IsPassedOver choice now) (drop place goals) → Pass choice goals start now
+  standing_passes goals start now place end stands idle = stands.passes now (pass_of_idle now (drop place goals) idle)

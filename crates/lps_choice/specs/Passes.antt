@@ -1,5 +1,5 @@
 -- Picks that are made by passes over the pending goals, each of which gives each goal its first proposal that may be picked.
-use Rattle.std.specs.Prelude.{◌≡◌, ◌⊎◌, ◌++◌, ◌<◌, ℕ, Bool, true, false, List, [], ◌∷◌, Option, Some, None, length, reverse, Contains}
+use Rattle.std.specs.Prelude.{◌≡◌, ◌⊎◌, ◌++◌, ◌<◌, ℕ, zero, suc, Bool, true, false, List, [], ◌∷◌, Option, Some, None, length, reverse, Contains}
 use Rattle.lps_terms.specs.declared.prefer.Prefer.{Prefer}
 use Rattle.lps_terms.specs.declared.prefer.Prefer.TheVariants.{Oldest, Newest}
 use Rattle.lps_model.specs.declared.cycle.Group.{Group}
@@ -11,10 +11,10 @@ abbrev pub in_order : Prefer → List ℕ → List ℕ
 in_order Oldest goals = goals
 in_order Newest goals = reverse goals
 
--- whether picks were made after some
-abbrev pub Grows : List Pick → List Pick → Bool → Type 0
-Grows made all true = length made < length all
-Grows made all false = all ≡ made
+-- picks were made after some, unless the number is 0
+abbrev pub Grows : List Pick → List Pick → ℕ → Type 0
+Grows made all zero = all ≡ made
+Grows made all (suc n) = length made < length all
 
 module _ (choice : Choice) where
   -- the group is the first of some proposals that is admitted after some picks: each before it is refused

@@ -1,5 +1,5 @@
 ghost use Rattle.std.specs.Prelude.{◌≡◌, ◌↔◌, ◌++◌, ℕ, true, Contains, IsTrue, map, take, MatchResult, IfOk};
-ghost use Rattle.lps_choice.specs.Choices.{ArePicks, Extends, IsSettled, TakesGiven};
+ghost use Rattle.lps_choice.specs.Choices.{ArePicks, IsSettled, TakesGiven};
 
 use crate::next::{next_pick, numbers};
 use crate::world::World;

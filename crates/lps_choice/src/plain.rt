@@ -1,5 +1,6 @@
-ghost use Rattle.std.specs.Prelude.{◌≡◌, ℕ, Contains, MatchResult, IfOk, OnOk};
-ghost use Rattle.lps_choice.specs.Choices.{Extends, IsSettled};
+ghost use Rattle.std.specs.Prelude.{◌≡◌, ℕ, Contains, MatchResult, IfOk, OnOk, drop};
+ghost use Rattle.std.specs.List.{AllByRecursion};
+ghost use Rattle.lps_choice.specs.Choices.{Extends, IsPassedOver};
 ghost use Rattle.lps_choice.specs.Passes.{AllPasses, ArePlain, Gives, Grows, Pass, in_order};
 
 use crate::chooser::Chooser;
@@ -31,20 +32,32 @@ fn give<W: World>(alloc: Global, world: &mut W, goal: u64) -> Result<bool, Alloc
     }
 }
 
-/// Goes over the goals once. Answers whether a pick was made.
-fn pass<W: World>(alloc: Global, world: &mut W, goals: &[u64]) -> Result<bool, AllocError>
-    requires { (goal : ℕ) → Contains goals.now goal → Contains (W.choice (W.fixed world.old)).goals goal }
+/// Goes over the goals once. Those from place `asked` on get nothing before a pick is made, and are asked only after one.
+/// Answers the place behind the last goal that got a pick, or 0: those from there on get nothing before one more is made.
+fn pass<W: World>(
+    alloc: Global,
+    world: &mut W,
+    goals: &[u64],
+    asked: usize,
+) -> Result<usize, AllocError>
+    requires pending { (goal : ℕ) → Contains goals.now goal → Contains (W.choice (W.fixed world.old)).goals goal }
+    requires idle { AllByRecursion (IsPassedOver (W.choice (W.fixed world.old)) (W.picks world.old)) (drop asked goals.now) }
     ensures fixed { W.fixed world.new ≡ W.fixed world.old }
     ensures legal { Extends (W.choice (W.fixed world.old)) (W.picks world.old) (W.picks world.new) }
     ensures passed { OnOk result (Pass (W.choice (W.fixed world.old)) goals.now (W.picks world.old) (W.picks world.new)) }
-    ensures grows { IfOk result (λ made. Grows (W.picks world.old) (W.picks world.new) made) }
+    ensures grows { IfOk result (λ end. Grows (W.picks world.old) (W.picks world.new) end) }
+    ensures idle { IfOk result (λ end. AllByRecursion (IsPassedOver (W.choice (W.fixed world.old)) (W.picks world.new)) (drop end goals.now)) }
 {
-    let mut made = false;
-    for goal in goals {
-        let given = give(alloc, world, *goal)?;
-        made = made || given;
+    let mut end = 0;
+    for (place, goal) in goals.iter().enumerate() {
+        if end == 0 && asked <= place {
+            return Ok(0);
+        }
+        if give(alloc, world, *goal)? {
+            end = place + 1;
+        }
     }
-    Ok(made)
+    Ok(end)
 }
 
 /// Goes over the goals until no pick is made.
@@ -54,8 +67,13 @@ fn passes<W: World>(alloc: Global, world: &mut W, goals: &[u64]) -> Result<(), A
     ensures legal { Extends (W.choice (W.fixed world.old)) (W.picks world.old) (W.picks world.new) }
     ensures passed { OnOk result (AllPasses (W.choice (W.fixed world.old)) goals.now (W.picks world.old) (W.picks world.new)) }
 {
-    while pass(alloc, world, goals)? {}
-    Ok(())
+    let mut asked = goals.len();
+    loop {
+        asked = pass(alloc, world, goals, asked)?;
+        if asked == 0 {
+            return Ok(());
+        }
+    }
 }
 
 /// The pending goals in the order in which a pass goes over them.

@@ -1,39 +1,52 @@
-use Rattle.std.proofs.Common.{◌≡◌, ◌∙◌, ◌+◌, sym, ap, subst, drop, get_or}
-use Rattle.std.specs.Prelude.{◌||◌, Contains}
+use Rattle.std.proofs.Common.{◌∙◌, ◌+◌, sym, subst, get_or}
+use Rattle.std.specs.Prelude.{Contains}
 use Rattle.std.proofs.lemmas.List.Elements.{Contains-get_or}
-use Rattle.lps_choice.specs.Passes.{Gives, Grows, Pass}
+use Rattle.lps_choice.specs.Choices.{IsPassedOver}
+use Rattle.lps_choice.specs.Passes.{Gives}
 use Rattle.lps_choice.proofs.plain.pass.Goals as goal
-use Rattle.lps_choice.proofs.plain.pass.Goals.{then-made, else-made}
-use Rattle.lps_choice.proofs.Extensions.{extends_further}
-use Rattle.lps_choice.proofs.Lists.{drop_here}
-use Rattle.lps_choice.proofs.Rounds.{step_extends, step_grows, step_passes}
+use Rattle.lps_choice.proofs.plain.pass.Goals.{then-branch, else-branch}
+use Rattle.lps_choice.proofs.Lists.{all_dropped}
+use Rattle.lps_choice.proofs.Rounds.{Standing, idle_from, standing_given, standing_passed, standing_passes}
+
+pub returns-then-asked-place-clause-passed : goal.returns-then-asked-place-clause-passed
+returns-then-asked-place-clause-passed g c =
+    let choice = g.W.World.choice (g.W.World.fixed c.args.world.now) in
+    let start = g.W.World.picks c.args.world.now in
+    let now = g.W.World.picks c.loop-place.world in
+    let goals = c.args.goals.now in
+    let place = c.loop-place.place in
+    let stands = subst (Standing choice goals start now place) c.if-end-eq0.true c.loop-place.invariant.stands in
+    standing_passes choice goals start now place 0 stands
+    (all_dropped (IsPassedOver choice now) place goals (idle_from choice goals start now place c.args.asked stands c.if-asked-place.true c.requires.idle))
+
+pub returns-then-asked-place-clause-idle : goal.returns-then-asked-place-clause-idle
+returns-then-asked-place-clause-idle g c =
+    let choice = g.W.World.choice (g.W.World.fixed c.args.world.now) in
+    let start = g.W.World.picks c.args.world.now in
+    let now = g.W.World.picks c.loop-place.world in
+    let stands = subst (Standing choice c.args.goals.now start now c.loop-place.place) c.if-end-eq0.true c.loop-place.invariant.stands in
+    idle_from choice c.args.goals.now start now c.loop-place.place c.args.asked stands c.if-asked-place.true c.requires.idle
 
 pub give-requires : goal.give-requires
 give-requires g c =
-    let place = c.loop-goal.goal-index in
-    subst (λ f. Contains (g.W.World.choice f).goals (get_or c.args.goals.now place 0)) (sym c.loop-goal.invariant.fixed)
-    (c.requires (get_or c.args.goals.now place 0) (Contains-get_or c.args.goals.now place 0 c.loop-goal-test.true))
+    let goal = get_or c.args.goals.now c.loop-place.place 0 in
+    subst (λ f. Contains (g.W.World.choice f).goals goal) (sym c.loop-place.invariant.fixed) (c.requires.pending goal (Contains-get_or c.args.goals.now c.loop-place.place 0 c.loop-place-test.true))
 
-pub loop-goal-preserved : goal.loop-goal-preserved
-loop-goal-preserved g c =
+pub loop-place-preserved : goal.loop-place-preserved
+loop-place-preserved g c =
     let choice = g.W.World.choice (g.W.World.fixed c.args.world.now) in
     let start = g.W.World.picks c.args.world.now in
-    let made = g.W.World.picks c.loop-goal.world in
+    let made = g.W.World.picks c.loop-place.world in
     let now = g.W.World.picks c.give.new.world in
     let goals = c.args.goals.now in
-    let place = c.loop-goal.goal-index in
+    let place = c.loop-place.place in
     let goal = get_or goals place 0 in
-    let given = c.in_ok-given.given in
-    let pending = c.requires goal (Contains-get_or goals place 0 c.loop-goal-test.true) in
-    let gives = subst (λ f. Gives (g.W.World.choice f) goal made now given) c.loop-goal.invariant.fixed c.in_ok-given.ensures.given in
-    let grown : c.if-made.made ≡ (c.loop-goal.made || given) = elim c.if-made.branch [
-      | then-made w ↦ w.made-is ∙ w.if-made.true ∙ sym (ap (λ m. m || given) w.if-made.true)
-      | else-made w ↦ w.made-is ∙ sym (ap (λ m. m || given) w.if-made.false)
+    let pending = c.requires.pending goal (Contains-get_or goals place 0 c.loop-place-test.true) in
+    let gives = subst (λ f. Gives (g.W.World.choice f) goal made now c.in_ok-give.field-0) c.loop-place.invariant.fixed c.in_ok-give.ensures.given in
+    let stands : Standing choice goals start now (place + 1) c.if-branch.end = elim c.if-branch.branch [
+      | then-branch w ↦ subst (Standing choice goals start now (place + 1)) (sym w.end-is)
+          (standing_given choice goals start made now place c.loop-place.end c.loop-place-test.true pending c.loop-place.invariant.stands (subst (Gives choice goal made now) w.if-branch.true gives))
+      | else-branch w ↦ subst (Standing choice goals start now (place + 1)) (sym w.end-is)
+          (standing_passed choice goals start made now place c.loop-place.end c.loop-place-test.true c.loop-place.invariant.stands (subst (Gives choice goal made now) w.if-branch.false gives))
     ] in
-    record {
-      fixed = c.in_ok-given.ensures.fixed ∙ c.loop-goal.invariant.fixed;
-      legal = extends_further choice start made now c.loop-goal.invariant.legal (step_extends choice goal made now given pending gives);
-      passes = λ all pass. c.loop-goal.invariant.passes all
-          (subst (λ gs. Pass choice gs made all) (sym (drop_here goals place 0 c.loop-goal-test.true)) (step_passes choice goal (drop (place + 1) goals) made now all given gives pass));
-      grows = subst (Grows start now) (sym grown) (step_grows choice goal start made now c.loop-goal.made given c.loop-goal.invariant.grows gives);
-    }
+    record { fixed = c.in_ok-give.ensures.fixed ∙ c.loop-place.invariant.fixed; stands = stands }
