@@ -85,7 +85,7 @@ only_initial k.Macro h = absurd (cc)
 module _ (text : Text) (accepted : IsAccepted text) where
   -- ---- names that clauses do not leave
 
-  timeless_are_closed : AreClosed (clauses text) (λ name. is_timeless (kind_of text name))
+  pub timeless_are_closed : AreClosed (clauses text) (λ name. is_timeless (kind_of text name))
   timeless_are_closed = record {
     calls = λ clause l at among named.
         let found = condition_kind text accepted clause l at among in

@@ -1,0 +1,10 @@
+pub mod LeftBehind
+pub mod Meeting
+pub mod Occurring
+pub mod Passing
+pub mod Readiness
+pub mod Rows
+pub mod SettingTimes
+pub mod SettingValues
+pub mod Timeless
+pub mod TrueNow

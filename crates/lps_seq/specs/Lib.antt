@@ -1,0 +1,5 @@
+pub mod Starts
+pub mod Carries
+pub mod Found
+pub mod Leads
+pub mod Calls
