@@ -1,0 +1,11 @@
+pub mod Ends
+pub mod Lists
+pub mod GoalNodes
+pub mod Keys
+pub mod Growing
+pub mod Kept
+pub mod Pursuing
+pub mod Closing
+pub mod Continuing
+pub mod Offering
+pub mod Proposed

@@ -1,0 +1,6 @@
+pub mod Pursued
+pub mod Followed
+pub mod Found
+pub mod Offers
+pub mod Laws
+pub mod OfferOrder
