@@ -103,6 +103,21 @@ ACCEPTED = [
     "derived j, k. j if not k, i. k if i. i if p.",
 ]
 
+# Statements of accepted texts that are not run so far.
+NOT_BUILT = [
+    "m from T1 to T2 if a from T1 to T2.",
+    "if e from T1 to T2 then m from T2 to T3.",
+    "if e from T1 to T2 then a from T2 to T3 or a from T3 to T4, m from T4 to T5.",
+]
+
+# Statements that are run, and the status at the end of an empty stream where `p` holds.
+RUN = [
+    ("macro n.", 0),
+    ("if e from T1 to T2 then a from T2 to T3 or p at T3.", 0),
+    ("if p at T then p at T.", 0),
+    ("if p at T then a from T to T1.", 1),
+]
+
 # What stands in the line of cycle 1, and how the stream is refused for it; None where the cycle is made.
 LINES = [
     ("1: e.", None),
@@ -176,6 +191,15 @@ def text_cases():
     yield "a text that is too long", "%" * 1_048_577, (3, "lps: text too long")
 
 
+def run_cases():
+    for statement in NOT_BUILT:
+        for line, text in around(statement):
+            yield f"run, line {line}: {statement[:40]}", text, expected(3, "text", line, "not built")
+    for statement, status in RUN:
+        for line, text in around(statement):
+            yield f"run, line {line}: {statement[:40]}", text, (status, "")
+
+
 def stream_cases():
     for line, refusal in LINES:
         for before in (0, 1, 3):
@@ -207,6 +231,9 @@ def main():
         for what, text, wanted in text_cases():
             path.write_text(text)
             check(what, ["check", str(path)], "", wanted)
+        for what, text, wanted in run_cases():
+            path.write_text(text)
+            check(what, ["run", str(path)], "", wanted)
         path.write_text(SWITCH)
         for what, stream, wanted in [*stream_cases(), limit_case()]:
             check(what, ["run", str(path)], stream, wanted)

@@ -1,3 +1,14 @@
 pub mod Runs
 pub mod Initial
-pub mod Updating
+pub mod RoundsJudged
+pub mod RoundsAsked
+pub mod RoundsStates
+pub mod RoundsMay
+pub mod Rounds
+pub mod RoundsDecided
+pub mod Agendas
+pub mod Counting
+pub mod Counts
+pub mod Later
+pub mod Standing
+pub mod Making

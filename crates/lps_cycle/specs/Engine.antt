@@ -1,20 +1,36 @@
 -- How a run stands between two cycles.
-use Rattle.std.specs.Prelude.{◌≡◌, ℕ, List, [], length, map}
+use Rattle.std.specs.Prelude.{◌≡◌, ℕ, List, length, map}
 use Rattle.lps_terms.specs.declared.atom.Atom.{Atom}
-use Rattle.lps_terms.specs.declared.prefer.Prefer.TheVariants.{Oldest}
+use Rattle.lps_terms.specs.declared.prefer.Prefer.{Prefer}
 use Rattle.lps_terms.specs.declared.text.Text.{Text}
+use Rattle.lps_model.specs.declared.cycle.Cycle.{Cycle}
 use Rattle.lps_model.specs.declared.trace.Trace.{Trace}
 use Rattle.lps_model.specs.Clauses.{clauses}
+use Rattle.lps_model.specs.Trace.{cycle_at}
 use Rattle.lps_derivation.specs.Levels.{AreLevels}
+use Rattle.lps_meaning.specs.declared.goal.Closed.{Closed}
+use Rattle.lps_meaning.specs.declared.goal.Counts.{Counts}
+use Rattle.lps_meaning.specs.declared.goal.GoalId.{GoalId}
+use Rattle.lps_meaning.specs.declared.goal.NewGoal.{NewGoal}
 use Rattle.lps_meaning.specs.Plain.{IsPlainRun}
-use Rattle.lps_meaning.specs.Reports.{IsState}
-use Rattle.lps_model.specs.Rules.{rules}
+use Rattle.lps_meaning.specs.Reports.{AreCounts, Block, IsBlockOf}
+use Rattle.lps_antecedents.specs.declared.held.Held.{Held}
+use Rattle.lps_antecedents.specs.Waiting.{StandsFor}
+use Rattle.lps_goaltrees.specs.Followed.{AreCallFree, StandsFor as PursuedFor}
+use Rattle.lps_goaltrees.specs.Pursued.{Pursuit}
 
--- what an engine is seen as: its text, the facts of its last state, and how many cycles it has made
+-- What an engine is seen as: its text, which goals are preferred, the facts of its last state, how many cycles it has made, what waits for
+-- antecedents and which goals are pursued now, which goals the last cycle created and closed, and how many goals have failed so far.
 pub record EngineState : Type 0 where
   pub text : Text
+  pub prefer : Prefer
   pub facts : List Atom
   pub cycles : ℕ
+  pub waiting : List Held
+  pub goals : Pursuit
+  pub created : List NewGoal
+  pub closed : List (GoalId × Closed)
+  pub failed : ℕ
 
 -- it holds by any levels of the clauses of the text; by which does not matter
 abbrev pub ByLevels : Text → ((List ℕ → ℕ) → Type 0) → Type 0
@@ -24,19 +40,31 @@ ByLevels text P = (level : List ℕ → ℕ) → AreLevels (clauses text) level 
 abbrev pub depth : ℕ
 depth = 100
 
--- the trace is the run of the text over these batches, which prefers the oldest goals
-abbrev pub IsRunOver : Text → List (List Atom) → Trace → Type 0
-IsRunOver text batches trace = ByLevels text (λ level. IsPlainRun text level depth Oldest batches trace)
+-- the trace is the run of the text over these batches, with these goals preferred
+abbrev pub IsRunOver : Text → Prefer → List (List Atom) → Trace → Type 0
+IsRunOver text prefer batches trace = ByLevels text (λ level. IsPlainRun text level depth prefer batches trace)
 
--- the list is state i of the trace
-abbrev pub IsStateOf : Text → Trace → ℕ → List Atom → Type 0
-IsStateOf text trace i facts = ByLevels text (λ level. IsState text level trace i facts)
+-- this is what is reported of the last cycle, which is this one
+abbrev pub block_with : EngineState → Cycle → Block
+block_with engine cycle = record { cycle = cycle; facts = engine.facts; created = engine.created; closed = engine.closed }
 
--- the trace is the run over these batches, of as many cycles as the engine has made, and its facts are the last state
+-- how many goals are pending, and how many have failed; none is cut
+abbrev pub counts_of : EngineState → Counts
+counts_of engine = record { pending = length engine.goals.goals; failed = engine.failed; cut = 0 }
+
+-- The trace is the run over these batches, of as many cycles as the engine has made. What waits and what is pursued stands for it; and the
+-- engine has what is reported of its last cycle and of its goals.
 pub record Stands (engine : EngineState) (batches : List (List Atom)) (trace : Trace) : Type 0 where
-  pub run : IsRunOver engine.text batches trace
+  pub run : IsRunOver engine.text engine.prefer batches trace
   pub events : map (λ cycle. cycle.events) trace.cycles ≡ batches
   pub count : length trace.cycles ≡ engine.cycles
-  pub state : IsStateOf engine.text trace engine.cycles engine.facts
-  -- so it has no goals
-  pub no_rules : rules engine.text ≡ []
+  pub waiting : ByLevels engine.text (λ level. StandsFor engine.text level trace (length trace.cycles) engine.waiting)
+  pub goals : ByLevels engine.text (λ level. PursuedFor engine.text level depth trace engine.goals)
+  pub block : ByLevels engine.text (λ level. IsBlockOf engine.text level depth trace (length trace.cycles) (block_with engine (cycle_at trace (length trace.cycles))))
+  pub counts : ByLevels engine.text (λ level. AreCounts engine.text level depth trace (counts_of engine))
+  -- consequents call no macros
+  pub call_free : AreCallFree engine.text
+
+-- it is the run of some batches
+abbrev pub IsOfRun : EngineState → Type 0
+IsOfRun engine = (batches : List (List Atom)) × (trace : Trace) × Stands engine batches trace

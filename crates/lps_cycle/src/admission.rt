@@ -1,9 +1,8 @@
-ghost use Rattle.std.specs.Prelude.{◌≡◌, ◌++◌, [], IfOk, OnErr, List};
+ghost use Rattle.std.specs.Prelude.{◌≡◌, ◌++◌, [], IfOk};
 ghost use Rattle.std.specs.List.{AllByRecursion};
-ghost use Rattle.lps_model.specs.Trace.{admitted, if_admitted};
+ghost use Rattle.lps_model.specs.Trace.{if_admitted};
 ghost use Rattle.lps_facts.specs.Facts.{members};
 ghost use Rattle.lps_causal.specs.Names.{IsEvent};
-ghost use Rattle.lps_causal.specs.Next.{IsUpdate};
 ghost use Rattle.lps_trial.specs.Trial.{IsLonger, IsTrial};
 ghost use Rattle.lps_cycle.specs.Admission.{AreAdmitted, IsVerdictIn, MayCome};
 
@@ -35,7 +34,7 @@ fn judge(
 }
 
 /// Judges the events of a batch in order, each with those admitted before it, which are then the events of the trial.
-fn admit(
+pub(crate) fn admit(
     alloc: Global,
     theory: &Theory,
     trial: &mut Trial,
@@ -54,50 +53,4 @@ fn admit(
         verdicts.push(verdict)?;
     }
     Ok(Items::from_vec(verdicts))
-}
-
-/// Judges the events of a batch, and lets those that are admitted happen. Where memory runs out the trial stays as it was.
-pub(crate) fn happen(
-    alloc: Global,
-    theory: &Theory,
-    trial: &mut Trial,
-    events: &[Atom],
-) -> Result<Items<Verdict>, AllocError>
-    requires trial { IsTrial theory.now trial.now }
-    requires anew { trial.now.events ≡ [] }
-    requires events { AllByRecursion (MayCome theory.now) events.now }
-    ensures admitted { IfOk result (λ verdicts. AreAdmitted theory.now (members trial.old.state) events.now verdicts (admitted events.now verdicts)) }
-    ensures next { IfOk result (λ verdicts. IsUpdate theory.now (members trial.old.state) (admitted events.now verdicts) (members trial.new.state)) }
-    ensures trial { IsTrial theory.now trial.new }
-    ensures anew { trial.new.events ≡ [] }
-    ensures err { OnErr result (trial.new ≡ trial.old) }
-{
-    let mark = trial.mark();
-    match admit_and_update(alloc, theory, trial, events) {
-        Ok(verdicts) => Ok(verdicts),
-        Err(error) => {
-            trial.undo_to(&mark);
-            Err(error)
-        }
-    }
-}
-
-/// The same, but that a part of the events may be left where memory runs out.
-fn admit_and_update(
-    alloc: Global,
-    theory: &Theory,
-    trial: &mut Trial,
-    events: &[Atom],
-) -> Result<Items<Verdict>, AllocError>
-    requires trial { IsTrial theory.now trial.now }
-    requires anew { trial.now.events ≡ [] }
-    requires events { AllByRecursion (MayCome theory.now) events.now }
-    ensures admitted { IfOk result (λ verdicts. AreAdmitted theory.now (members trial.old.state) events.now verdicts (admitted events.now verdicts)) }
-    ensures next { IfOk result (λ verdicts. IsUpdate theory.now (members trial.old.state) (admitted events.now verdicts) (members trial.new.state)) }
-    ensures trial { IfOk result (λ verdicts. IsTrial theory.now trial.new × (trial.new.events ≡ [])) }
-    ensures longer { OnErr result (IsLonger trial.old trial.new) }
-{
-    let verdicts = admit(alloc, theory, trial, events)?;
-    trial.update(alloc, theory)?;
-    Ok(verdicts)
 }

@@ -1,15 +1,31 @@
-//! A run from cycle to cycle: admission of the events of a batch, and the update of the state.
+//! A run from cycle to cycle: admission of the events of a batch, actions picked for the pending goals, the update of the state, and what
+//! waits and what is pursued carried on.
 //!
-//! It stands on the trial of events, on the facts of a state, and on the definitions of runs. It
-//! knows nothing of streams, of printing, or of the bytes of a report. Its theorem is that the run over the batches so far
-//! stands as the engine says (clauses `stands` of `Engine::start` and `Engine::cycle`): each event has the verdict of the
-//! definition, no denial is violated by what happens in a cycle, and the facts are exactly the fluents that hold by
-//! persistence over the whole trace.
+//! It stands on the trial of events, on what waits for antecedents, on goals that are pursued, on choosers, and on the definitions of runs.
+//! It knows nothing of streams, of printing, or of the bytes of a report. Its theorem is that the run over the batches so far stands as
+//! the engine says (clauses `stands` of `Engine::start` and `Engine::cycle`): it is the plain run of the text over them, each cycle being
+//! legal after those before; the facts are exactly the fluents that hold by persistence over the whole trace; the goals that a cycle
+//! creates are exactly the keys of antecedents that come true in it, and those that it closes have their true status; and as many goals
+//! are pending and have failed as the engine counts.
 //!
-//! Only texts without rules are run so far, which have no goals, so that nothing is picked.
+//! Consequents call no macros so far, so that no goal is cut.
+//!
+//! Contracts cite these definitions:
+//!
+//! | file of `specs/` | defines |
+//! |---|---|
+//! | `Engine` | how a run stands between two cycles |
+//! | `Admission` | which events of a batch are admitted |
+//! | `Round` | what happens in a cycle that is being made, and what is decided of it |
+//! | `Candidates` | what the pending goals propose, and which of them have a pick |
+//! | `Agenda` | what waits and is pursued, and what a cycle makes of it |
+//! | `Making` | what a cycle makes of a run |
 #![tactic(auto)]
 
 mod admission;
+mod agenda;
+mod candidates;
 mod engine;
+mod round;
 
 pub use engine::Engine;

@@ -1,7 +1,8 @@
-pub mod WithoutRules
+pub mod CallFree
 pub mod Feeds
 pub mod Judging
 pub mod OneWay
+pub mod Counting
 pub mod Reports
 pub mod Steps
 pub mod Pieces

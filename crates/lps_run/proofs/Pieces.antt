@@ -100,10 +100,10 @@ shifted taken before now after PrintFault e h = omega arith
 shifted taken before now after StreamLimit e h = omega arith
 shifted taken before now after EventFault e h = omega arith
 
-pub keeps_stopped : (taken : ℕ) (before now : Stream) (stop : Stop) (source : Option Stream) → length before.left ≡ taken + length now.left → TakesWithin taken now (Err stop) source → KeepsLimit before (Err stop) source
+pub keeps_stopped : (taken : ℕ) (before now : Stream) (stop : Stop) (source : Option Stream) → length before.left ≡ taken + length now.left → TakesWithin taken now (Err stop) source → KeepsLimit {T = Unit {0}} before (Err stop) source
 keeps_stopped taken before now stop source size t = record { after = t.after; known = t.known; limit = shifted taken (length before.left) (length now.left) (length t.after.left) stop size t.limit }
 
-line_result : (before after : ℕ) (result : Result (Unit {0}) Stop) → ((stop : Stop) → result ≡ Err stop → StopsAtLine stop) → before ≤ 2 ^ 36 + after → LimitIs 0 before after result
+line_result : {T : Type 0} (before after : ℕ) (result : Result T Stop) → ((stop : Stop) → result ≡ Err stop → StopsAtLine stop) → before ≤ 2 ^ 36 + after → LimitIs 0 before after result
 line_result before after (Ok x) kind h = omega arith
 line_result before after (Err NoMemory) kind h = omega arith
 line_result before after (Err (Refused line)) kind h = omega arith
@@ -112,7 +112,7 @@ line_result before after (Err PrintFault) kind h = omega arith
 line_result before after (Err StreamLimit) kind h = absurd (kind StreamLimit refl)
 line_result before after (Err EventFault) kind h = absurd (kind EventFault refl)
 
-pub keeps_line : (before after : Stream) (result : Result (Unit {0}) Stop) (source : Option Stream) → source ≡ Some after → ((stop : Stop) → result ≡ Err stop → StopsAtLine stop) →
+pub keeps_line : {T : Type 0} (before after : Stream) (result : Result T Stop) (source : Option Stream) → source ≡ Some after → ((stop : Stop) → result ≡ Err stop → StopsAtLine stop) →
     length before.left ≤ 2 ^ 36 + length after.left → KeepsLimit before result source
 keeps_line before after result source known kind h = record { after = after; known = known; limit = line_result (length before.left) (length after.left) result kind h }
 

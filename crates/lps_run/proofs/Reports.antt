@@ -1,8 +1,6 @@
 -- The blocks of a run that goes on, and its last line.
 use Rattle.std.proofs.Common.{◌≡◌, ℕ, zero, suc, ◌+◌, ◌-◌, ◌≤◌, List, [], ◌∷◌, ◌++◌, length, refl, sym, ap, subst, ◌∙◌, arith, length-append, append_assoc}
-use Rattle.std.specs.Prelude.{codes, Some, slice_get}
-use Rattle.std.specs.declared.cmp.Ordering.{Ordering}
-use Rattle.std.specs.List.Sorted.{IsStrictlySortedBy}
+use Rattle.std.specs.Prelude.{Some, slice_get}
 use Rattle.std.proofs.lemmas.List.{append-nil}
 use Rattle.lps_terms.specs.declared.atom.Atom.{Atom}
 use Rattle.lps_terms.specs.declared.text.Text.{Text}
@@ -10,41 +8,25 @@ use Rattle.lps_model.specs.declared.cycle.Cycle.{Cycle}
 use Rattle.lps_model.specs.declared.trace.Trace.{Trace}
 use Rattle.lps_model.specs.Trace.{cycle_at, cycle_or_none, no_cycle, then_cycle}
 use Rattle.lps_model.specs.Run.{first_trace}
-use Rattle.lps_model.proofs.Elements.{nothing_contained}
 use Rattle.lps_model.specs.Clauses.{clauses}
 use Rattle.lps_derivation.specs.Levels.{AreLevels}
 use Rattle.lps_meaning.specs.Laws.{BlocksStay, IsContinuation}
-use Rattle.lps_meaning.specs.Reports.{AreBlocks, AreCounts, IsBlock}
-use Rattle.lps_model.specs.Rules.{rules}
-use Rattle.lps_cycle.specs.Engine.{EngineState, IsStateOf, Stands, depth}
-use Rattle.lps_cycle.proofs.Runs.{no_goals, no_key}
-use Rattle.lps_run.specs.Reporting.{AreAllBlocks, IsLastLine, IsWholeReport, block_of}
+use Rattle.lps_meaning.specs.Reports.{AreBlocks, IsBlock, block_text, last_line}
+use Rattle.lps_meaning.specs.declared.goal.Counts.{Counts}
+use Rattle.lps_cycle.specs.Engine.{EngineState, Stands, block_with, depth}
+use Rattle.lps_run.specs.Reporting.{AreAllBlocks, AreCountsOf, IsLastLine, IsWholeReport}
 
 last_one : {X : Type 0} (xs : List X) (y : X) → slice_get (xs ++ y ∷ []) (length xs) ≡ Some y
 last_one [] y = refl
 last_one (x ∷ xs) y = last_one xs y
 
-sorted_none : {K : Type 0} (cmp : K → K → Ordering) → IsStrictlySortedBy cmp []
-unfolding IsStrictlySortedBy
-sorted_none cmp = tt
-
 -- ---- one block
 
--- without rules a block has no goals
-is_block : (text : Text) (none : rules text ≡ []) (trace : Trace) (k : ℕ) (facts : List Atom) (block : List ℕ) → IsStateOf text trace k facts → block ≡ block_of k (cycle_at trace k) facts →
-    (level : List ℕ → ℕ) → AreLevels (clauses text) level → IsBlock text level depth trace k block
-is_block text none trace k facts block state spelled level levels = (
-  record { cycle = cycle_at trace k; facts = facts; created = []; closed = [] },
-  record {
-    cycle = refl;
-    state = state level levels;
-    keys = [];
-    goals = no_goals text none level trace k;
-    created = record { sorted = sorted_none _; exact = λ n key. ((λ among. absurd (nothing_contained _ among)), (λ is. absurd (no_key text none n key is.0))) };
-    closed = record { sorted = sorted_none _; exact = λ n how. ((λ among. absurd (nothing_contained _ among)), (λ is. absurd (no_key text none n is.key is.goal))) };
-  },
-  spelled,
-)
+-- what the engine has of its last cycle is the block of that cycle
+is_block : {engine : EngineState} {batches : List (List Atom)} {trace : Trace} (stands : Stands engine batches trace) (number : ℕ) (cycle : Cycle) (block : List ℕ) → number ≡ length trace.cycles → cycle ≡ cycle_at trace (length trace.cycles) →
+    block ≡ block_text number (block_with engine cycle) → (level : List ℕ → ℕ) → AreLevels (clauses engine.text) level → IsBlock engine.text level depth trace (length trace.cycles) block
+is_block {engine = engine} {trace = trace} stands number cycle block number_is at spelled level levels =
+    (block_with engine (cycle_at trace (length trace.cycles)), stands.block level levels, spelled ∙ (λ i. block_text (number_is i) (block_with engine (at i))))
 
 -- ---- several blocks
 
@@ -77,56 +59,37 @@ blocks_stay stay text level trace longer on first (suc n) bytes upto blocks = (
 
 -- the blocks, and that of one cycle more
 pub block_more : BlocksStay → (before after : EngineState) (batches more : List (List Atom)) (trace : Trace) (cycle : Cycle) (blocks block : List ℕ) →
-    Stands before batches trace → Stands after more (then_cycle trace cycle) → after.text ≡ before.text → after.cycles ≡ before.cycles + 1 →
-    AreAllBlocks before.text trace blocks → block ≡ block_of after.cycles cycle after.facts → AreAllBlocks after.text (then_cycle trace cycle) (blocks ++ block)
-block_more stay before after batches more trace cycle blocks block stands next same_text count reported spelled level levels =
-    let n : ℕ = length trace.cycles in
-    let number : after.cycles ≡ suc (length trace.cycles) = omega (arith, stands.count, count) in
-    let longer : suc (length trace.cycles) ≡ length (trace.cycles ++ cycle ∷ []) = omega (arith, length-append trace.cycles (cycle ∷ [])) in
-    let at : cycle ≡ cycle_at (then_cycle trace cycle) (suc (length trace.cycles)) = sym (ap cycle_or_none (last_one trace.cycles cycle)) in
-    let one : IsBlock after.text level depth (then_cycle trace cycle) (suc (length trace.cycles)) block =
-    is_block after.text next.no_rules (then_cycle trace cycle) (suc (length trace.cycles)) after.facts block (subst (λ k. IsStateOf after.text (then_cycle trace cycle) k after.facts) number next.state)
-    (spelled ∙ (λ i. block_of (number i) (at i) after.facts)) level levels in
+    Stands after more (then_cycle trace cycle) → after.text ≡ before.text →
+    AreAllBlocks before.text trace blocks → block ≡ block_text after.cycles (block_with after cycle) → AreAllBlocks after.text (then_cycle trace cycle) (blocks ++ block)
+block_more stay before after batches more trace cycle blocks block next same_text reported spelled level levels =
+    let longer : length (trace.cycles ++ cycle ∷ []) ≡ suc (length trace.cycles) = omega (arith, length-append trace.cycles (cycle ∷ [])) in
+    let at : cycle ≡ cycle_at (then_cycle trace cycle) (length (trace.cycles ++ cycle ∷ [])) = sym (ap (cycle_at (then_cycle trace cycle)) longer ∙ ap cycle_or_none (last_one trace.cycles cycle)) in
+    let one = is_block next after.cycles cycle block (sym next.count) at spelled level levels in
     let old : AreBlocks after.text level depth trace 0 (suc (length trace.cycles)) blocks =
     subst (λ (t : Text). AreBlocks t level depth trace 0 (suc (length trace.cycles)) blocks) (sym same_text) (reported level (subst (λ (t : Text). AreLevels (clauses t) level) same_text levels)) in
     let kept = blocks_stay stay after.text level trace (then_cycle trace cycle) (record { initial = refl; more = cycle ∷ []; cycles = refl }) 0 (suc (length trace.cycles)) blocks (omega arith) old in
-    subst (λ k. AreBlocks after.text level depth (then_cycle trace cycle) 0 (suc k) (blocks ++ block)) longer
+    subst (λ k. AreBlocks after.text level depth (then_cycle trace cycle) 0 (suc k) (blocks ++ block)) (sym longer)
     (blocks_then after.text level (then_cycle trace cycle) 0 (suc (length trace.cycles)) blocks block kept
-    (subst (λ k. IsBlock after.text level depth (then_cycle trace cycle) k block) (let e : suc (length trace.cycles) ≡ 0 + suc (length trace.cycles) = omega arith in e) one))
+    (subst (λ k. IsBlock after.text level depth (then_cycle trace cycle) k block) (let e : length (trace.cycles ++ cycle ∷ []) ≡ 0 + suc (length trace.cycles) = omega (arith, longer) in e) one))
 
 -- the block of cycle 0
-pub block_first : (engine : EngineState) (block : List ℕ) → Stands engine [] (first_trace engine.facts) → block ≡ block_of 0 no_cycle engine.facts → AreAllBlocks engine.text (first_trace engine.facts) block
-block_first engine block stands spelled level levels =
-    let zero_is : engine.cycles ≡ 0 = sym stands.count in (
-      block,
-      [],
-      is_block engine.text stands.no_rules (first_trace engine.facts) 0 engine.facts block (subst (λ k. IsStateOf engine.text (first_trace engine.facts) k engine.facts) zero_is stands.state) spelled level levels,
-      refl,
-      sym (append-nil block),
-    )
+pub block_first : (engine : EngineState) (block : List ℕ) → Stands engine [] (first_trace engine.facts) → block ≡ block_text 0 (block_with engine no_cycle) → AreAllBlocks engine.text (first_trace engine.facts) block
+block_first engine block stands spelled level levels = (block, [], is_block stands 0 no_cycle block refl refl spelled level levels, refl, sym (append-nil block))
 
 -- ---- the last line
 
--- without rules no goal is left
-counts : (text : Text) (none : rules text ≡ []) (level : List ℕ → ℕ) (trace : Trace) → AreCounts text level depth trace (record { pending = 0; failed = 0; cut = 0 })
-counts text none level trace = record {
-  keys = [];
-  goals = no_goals text none level trace (length trace.cycles);
-  statuses = [];
-  each = tt;
-  pending = refl;
-  failed = refl;
-  cut = refl;
-}
+pub last_of : (text : Text) (trace : Trace) (counts : Counts) (bytes : List ℕ) → AreCountsOf text trace counts → bytes ≡ last_line counts → IsLastLine text trace bytes
+last_of text trace counts bytes counted is level levels = (counts, counted level levels, is)
 
-pub last_is_done : (text : Text) → rules text ≡ [] → (trace : Trace) (bytes : List ℕ) → bytes ≡ codes "done\n" → IsLastLine text trace bytes
-last_is_done text none trace bytes is level levels = (record { pending = 0; failed = 0; cut = 0 }, counts text none level trace, is)
-
-pub report_done : (text : Text) → rules text ≡ [] → (trace : Trace) (blocks bytes : List ℕ) → AreAllBlocks text trace blocks → bytes ≡ codes "done\n" → IsWholeReport text trace (blocks ++ bytes)
-report_done text none trace blocks bytes reported is level levels = record {
-  blocks = blocks;
-  are_blocks = subst (λ k. AreBlocks text level depth trace 0 k blocks) (let e : suc (length trace.cycles) ≡ suc (length trace.cycles) - 0 = omega arith in e) (reported level levels);
-  counts = record { pending = 0; failed = 0; cut = 0 };
-  are_counts = counts text none level trace;
-  spelled = ap (λ (bs : List ℕ). blocks ++ bs) is;
-}
+pub report_of : (text : Text) (trace : Trace) (counts : Counts) (blocks bytes : List ℕ) → AreAllBlocks text trace blocks → AreCountsOf text trace counts → bytes ≡ last_line counts →
+    IsWholeReport text trace counts (blocks ++ bytes)
+report_of text trace counts blocks bytes reported counted is level levels = (
+  record {
+    blocks = blocks;
+    are_blocks = subst (λ k. AreBlocks text level depth trace 0 k blocks) (let e : suc (length trace.cycles) ≡ suc (length trace.cycles) - 0 = omega arith in e) (reported level levels);
+    counts = counts;
+    are_counts = counted level levels;
+    spelled = ap (λ (bs : List ℕ). blocks ++ bs) is;
+  },
+  refl,
+)

@@ -1,9 +1,11 @@
 -- From one line of a stream to the next, and to its end.
-use Rattle.std.proofs.Common.{◌≡◌, ℕ, suc, ◌+◌, List, [], ◌∷◌, ◌++◌, length, Option, Some, None, Result, Ok, Err, refl, sym, ap, subst, ◌∙◌, inl, inr, arith, append_assoc, append-nil, OnOk, OnErr, MatchResult}
-use Rattle.std.specs.Prelude.{◌⊎◌, codes}
+use Rattle.std.proofs.Common.{◌≡◌, ℕ, suc, ◌+◌, List, [], ◌∷◌, ◌++◌, length, Option, Some, None, Result, Ok, Err, refl, sym, ap, subst, ◌∙◌, inl, inr, arith, append_assoc, append-nil, IfErr, OnOk, OnErr, MatchResult}
+use Rattle.std.specs.Prelude.{◌⊎◌}
 use Rattle.std.proofs.lemmas.List.{length-map}
 use Rattle.lps_terms.specs.declared.atom.Atom.{Atom}
 use Rattle.lps_terms.specs.declared.batch_kind.BatchKind.{BatchKind}
+use Rattle.lps_terms.specs.declared.prefer.Prefer.{Prefer}
+use Rattle.lps_terms.specs.declared.prefer.Prefer.TheVariants.{Oldest}
 use Rattle.lps_terms.specs.declared.batch_kind.BatchKind.TheVariants.{LineTooLong}
 use Rattle.lps_terms.specs.declared.text.Text.{Text}
 use Rattle.lps_model.specs.declared.batch.Batch.{Batch}
@@ -12,6 +14,7 @@ use Rattle.lps_model.specs.declared.trace.Trace.{Trace}
 use Rattle.lps_model.specs.Trace.{no_cycle, then_cycle}
 use Rattle.lps_model.specs.Run.{first_trace}
 use Rattle.lps_meaning.specs.Laws.{BlocksStay}
+use Rattle.lps_meaning.specs.Reports.{block_text, last_line}
 use Rattle.lps_batches.specs.LinesAhead.{IsLine}
 use Rattle.lps_batches.specs.declared.batch_bad.BatchBad.{BatchBad}
 use Rattle.lps_batches.specs.Lines.{IsBadLine}
@@ -20,21 +23,29 @@ use Rattle.lps_batches.specs.Stream as reads
 use Rattle.lps_outside.specs.Bytes.{IsFront, Appends, AppendsFront, Stream}
 use Rattle.lps_run.specs.declared.stream.Running.{Running}
 use Rattle.lps_run.specs.declared.stop.Stop.{Stop}
-use Rattle.lps_run.specs.declared.stop.Stop.TheVariants.{PrintFault}
-use Rattle.lps_cycle.specs.Engine.{EngineState, Stands}
+use Rattle.lps_run.specs.declared.stop.Stop.TheVariants.{NoMemory, Refused, CycleLimit, StreamLimit, EventFault, PrintFault}
+use Rattle.lps_cycle.specs.Engine.{EngineState, IsOfRun, IsRunOver, Stands, block_with, counts_of}
 use Rattle.lps_run.specs.Judged.{AreWhole, HasFirst, IsBatchOf, batch_fault, ended}
 use Rattle.lps_run.specs.Judged as judged
 use Rattle.lps_outside.specs.Causes.{Rose}
-use Rattle.lps_run.specs.Stopping.{Counted, PrintsBlocks, PrintsRunFront, PrintsFront, Reported, EndsAtLimit, EndsAtLine, Stopped}
+use Rattle.lps_run.specs.Stopping.{Counted, MayEnd, PrintsBlocks, PrintsRunFront, PrintsFront, Reported, EndsAtLimit, EndsAtLine, Stopped, StopsAtLine}
 use Rattle.lps_run.specs.Running.{Due, Made, Standing, Finished}
 use Rattle.lps_run.proofs.Feeds.{long_ends, no_whole}
-use Rattle.lps_run.specs.Reporting.{block_of}
 use Rattle.lps_run.proofs.Judging.{batch_more, pass_more, skip_more}
-use Rattle.lps_run.proofs.Reports.{block_more, block_first, last_is_done, report_done}
+use Rattle.lps_run.proofs.Reports.{block_more, block_first, last_of, report_of}
 
 -- a run has a cycle for each batch
 batch_count : {engine : EngineState} {batches : List (List Atom)} {trace : Trace} → Stands engine batches trace → length batches ≡ engine.cycles
 batch_count {trace = trace} stands = sym (ap length stands.events) ∙ length-map trace.cycles (λ (cycle : Cycle). cycle.events) ∙ stands.count
+
+-- the run of an engine that prefers the oldest goals
+pub oldest_run : {engine : EngineState} {batches : List (List Atom)} {trace : Trace} → engine.prefer ≡ Oldest → Stands engine batches trace → IsRunOver engine.text Oldest batches trace
+oldest_run {engine = engine} {batches = batches} {trace = trace} oldest stands = subst (λ (p : Prefer). IsRunOver engine.text p batches trace) oldest stands.run
+
+-- the run of one cycle more
+pub run_more : (before after : EngineState) (events : List Atom) (cycle : Cycle) →
+    ((batches : List (List Atom)) (trace : Trace) → Stands before batches trace → Stands after (batches ++ events ∷ []) (then_cycle trace cycle)) → IsOfRun before → IsOfRun after
+run_more before after events cycle goes_on run = (run.0 ++ events ∷ [], then_cycle run.1 cycle, goes_on run.0 run.1 run.2)
 
 -- ---- what is printed
 
@@ -48,7 +59,7 @@ module _ {running : Running} {stream rest blocks : List ℕ} (made : Made runnin
     batches = made.batches;
     first = made_first;
     trace = made.trace;
-    run = made.stands.run;
+    run = oldest_run made.oldest made.stands;
     blocks = blocks;
     reported = made.reported;
     ending = [];
@@ -59,8 +70,8 @@ module _ {running : Running} {stream rest blocks : List ℕ} (made : Made runnin
   }
 
   -- what is printed are the blocks of the run over the batches
-  pub made_prints : (start : List ℕ) (printed : Option (List ℕ)) → printed ≡ Some (start ++ blocks) → PrintsBlocks running.engine.text made.batches start printed
-  made_prints start printed told = record { trace = made.trace; run = made.stands.run; blocks = blocks; reported = made.reported; told = told }
+  abbrev pub made_prints : (start : List ℕ) (printed : Option (List ℕ)) → printed ≡ Some (start ++ blocks) → PrintsBlocks running.engine.text made.batches start printed
+  made_prints start printed told = record { trace = made.trace; run = oldest_run made.oldest made.stands; blocks = blocks; reported = made.reported; told = told }
 
 -- what was printed so far is a front of the report
 pub standing_front : {running : Running} {stream rest start : List ℕ} {printed : Option (List ℕ)} → Standing running stream rest start printed → PrintsFront running.engine.text stream start printed
@@ -68,7 +79,7 @@ standing_front {start = start} {printed = printed} s = inr (made_front s.made st
 
 module _ {running : Running} {stream rest start : List ℕ} {printed : Option (List ℕ)} {batch : Batch} (due : Due running stream rest start printed batch) where
   due_prints : PrintsBlocks running.engine.text due.batches start printed
-  due_prints = record { trace = due.trace; run = due.stands.run; blocks = due.blocks; reported = due.reported; told = due.told }
+  due_prints = record { trace = due.trace; run = oldest_run due.oldest due.stands; blocks = due.blocks; reported = due.reported; told = due.told }
 
   -- the same where the batch has no cycle yet
   pub due_front : PrintsFront running.engine.text stream start printed
@@ -76,7 +87,7 @@ module _ {running : Running} {stream rest start : List ℕ} {printed : Option (L
     batches = due.batches;
     first = record { front = due.taken; rest = due.line ++ 10 ∷ (running.reader.left ++ rest); split = due.split; lines = due.lines; are = due.are };
     trace = due.trace;
-    run = due.stands.run;
+    run = oldest_run due.oldest due.stands;
     blocks = due.blocks;
     reported = due.reported;
     ending = [];
@@ -121,17 +132,17 @@ module _ {running : Running} {stream rest start : List ℕ} {printed : Option (L
 
   -- the cycle of the batch is made
   pub due_made : BlocksStay → (new : Running) (number : ℕ) (cycle : Cycle) (block : List ℕ) → number ≡ running.engine.cycles + 1 → batch_fault running.engine.text number batch ≡ None →
-      new.engine.text ≡ running.engine.text → new.reader ≡ running.reader → new.engine.cycles ≡ running.engine.cycles + 1 →
+      new.engine.text ≡ running.engine.text → new.engine.prefer ≡ running.engine.prefer → new.reader ≡ running.reader → new.engine.cycles ≡ running.engine.cycles + 1 →
       ((batches : List (List Atom)) (trace : Trace) → Stands running.engine batches trace → Stands new.engine (batches ++ batch.events ∷ []) (then_cycle trace cycle)) →
-      block ≡ block_of number cycle new.engine.facts → Made new stream rest (due.blocks ++ block)
-  due_made stay new number cycle block is fine text_is reader_is count goes_on spelled =
+      block ≡ block_text number (block_with new.engine cycle) → Made new stream rest (due.blocks ++ block)
+  due_made stay new number cycle block is fine text_is prefer_is reader_is count goes_on spelled =
       let text = running.engine.text in
       let batches = due.batches ++ batch.events ∷ [] in
       let trace = then_cycle due.trace cycle in
       let stands = goes_on due.batches due.trace due.stands in
       let same : number ≡ new.engine.cycles = is ∙ sym count in
-      let reported = block_more stay running.engine new.engine due.batches batches due.trace cycle due.blocks block due.stands stands text_is count due.reported
-      (spelled ∙ ap (λ n. block_of n cycle new.engine.facts) same) in
+      let reported = block_more stay running.engine new.engine due.batches batches due.trace cycle due.blocks block stands text_is due.reported
+      (spelled ∙ ap (λ n. block_text n (block_with new.engine cycle)) same) in
       let are : AreWhole text (due.taken ++ (due.line ++ 10 ∷ [])) batches (suc due.lines) = batch_more text due.line batch (length due.batches) due.are (let e : length due.batches ≡ 0 + length due.batches = omega arith in e) (fits number is fine) in
       record {
         fine = ap (λ (r : Reader). r.bad) reader_is ∙ due.fine;
@@ -142,6 +153,7 @@ module _ {running : Running} {stream rest start : List ℕ} {printed : Option (L
         batches = batches;
         are = subst (λ (t : Text). AreWhole t (due.taken ++ (due.line ++ 10 ∷ [])) batches new.reader.lines) (sym text_is)
             (subst (λ n. AreWhole text (due.taken ++ (due.line ++ 10 ∷ [])) batches n) (sym (ap (λ (r : Reader). r.lines) reader_is ∙ due.place)) are);
+        oldest = prefer_is ∙ due.oldest;
         trace = trace;
         stands = stands;
         reported = reported;
@@ -170,8 +182,8 @@ block_printed text running stream rest blocks block bytes start before after sou
 -- ---- the start
 
 pub begun : (running : Running) (stream block : List ℕ) (cycle : Cycle) → running.reader ≡ record { left = []; lines = 0; bad = None } →
-    Stands running.engine [] (first_trace running.engine.facts) → cycle ≡ no_cycle → block ≡ block_of 0 cycle running.engine.facts → Made running stream (ended stream) block
-begun running stream block cycle reader_is stands none spelled =
+    running.engine.prefer ≡ Oldest → Stands running.engine [] (first_trace running.engine.facts) → cycle ≡ no_cycle → block ≡ block_text 0 (block_with running.engine cycle) → Made running stream (ended stream) block
+begun running stream block cycle reader_is oldest stands none spelled =
     let engine = running.engine in
     record {
       fine = ap (λ (r : Reader). r.bad) reader_is;
@@ -179,9 +191,10 @@ begun running stream block cycle reader_is stands none spelled =
       split = ap (λ (r : Reader). r.left ++ ended stream) (sym reader_is);
       batches = [];
       are = subst (λ n. AreWhole engine.text [] [] n) (sym (ap (λ (r : Reader). r.lines) reader_is)) judged.none;
+      oldest = oldest;
       trace = first_trace engine.facts;
       stands = stands;
-      reported = block_first engine block stands (spelled ∙ ap (λ (c : Cycle). block_of 0 c engine.facts) none);
+      reported = block_first engine block stands (spelled ∙ ap (λ (c : Cycle). block_text 0 (block_with engine c)) none);
     }
 
 -- ---- what the reader answers
@@ -208,6 +221,7 @@ module _ (engine : EngineState) (old new : Reader) {stream rest start : List ℕ
       split = past_split n.ahead;
       batches = s.made.batches;
       are = subst (λ k. AreWhole engine.text (s.made.taken ++ n.ahead.front) s.made.batches k) (let e : n.passed + old.lines ≡ new.lines = omega (arith, n.lines) in e) (past n.ahead);
+      oldest = s.made.oldest;
       trace = s.made.trace;
       stands = s.made.stands;
       reported = s.made.reported;
@@ -226,6 +240,7 @@ module _ (engine : EngineState) (old new : Reader) {stream rest start : List ℕ
     are = past t.ahead;
     place = omega (arith, t.lines);
     is = t.is;
+    oldest = s.made.oldest;
     trace = s.made.trace;
     stands = s.made.stands;
     blocks = s.blocks;
@@ -272,6 +287,7 @@ piece_fed running new stream piece rest start printed s engine_is reader_is =
         split = s.made.split ∙ ap (λ (bs : List ℕ). s.made.taken ++ bs) (sym (append_assoc running.reader.left piece rest));
         batches = s.made.batches;
         are = s.made.are;
+        oldest = s.made.oldest;
         trace = s.made.trace;
         stands = s.made.stands;
         reported = s.made.reported;
@@ -294,7 +310,7 @@ module _ (engine : EngineState) (old new : Reader) {stream start : List ℕ} {pr
         batches = s.made.batches;
         sound = (suc (n.passed + old.lines), subst (λ (bs : List ℕ). AreWhole engine.text bs s.made.batches (suc (n.passed + old.lines))) (sym split) are);
         prints = made_prints s.made start printed s.told;
-        no_rules = s.made.stands.no_rules;
+        counts = s.made.stands.counts;
       }
 
   pub last_due : (batch : Batch) → TakesLast old batch new → Due (record { engine = engine; reader = new }) stream [] start printed batch
@@ -308,6 +324,7 @@ module _ (engine : EngineState) (old new : Reader) {stream start : List ℕ} {pr
     are = past engine old new s t.ahead;
     place = ap (λ (r : Reader). r.lines) t.same ∙ (let e : old.lines + t.passed + 1 ≡ suc (t.passed + old.lines) = omega arith in e);
     is = t.is;
+    oldest = s.made.oldest;
     trace = s.made.trace;
     stands = s.made.stands;
     blocks = s.blocks;
@@ -328,71 +345,72 @@ all_taken running stream start printed s none =
       batches = s.made.batches;
       sound = (running.reader.lines, subst (λ (bs : List ℕ). AreWhole running.engine.text bs s.made.batches running.reader.lines) split s.made.are);
       prints = made_prints s.made start printed s.told;
-      no_rules = s.made.stands.no_rules;
+      counts = s.made.stands.counts;
     }
 
--- the counts after the last print
+-- the counts after a print
 pub last_counted : (reads reads' before mid after : ℕ) (result : Result (Unit {0}) Stop) → reads' ≡ reads → mid ≡ before →
     MatchResult result (λ _. after ≡ mid) (λ stop. (stop ≡ PrintFault) × Rose mid after) → Counted result reads reads' before after
 last_counted reads reads' before mid after (Ok x) same kept cause = (same, cause ∙ kept)
 last_counted reads reads' before mid after (Err stop) same kept cause = rw cause.0 (same, subst (λ n. Rose n after) kept cause.1)
 
--- before the last line, what is printed is a front of the report
-pub last_front : (running : Running) (text : Text) (stream start : List ℕ) (printed : Option (List ℕ)) → Finished running stream start printed → running.engine.text ≡ text → PrintsFront text stream start printed
-last_front running text stream start printed done same =
-    let p = done.prints in
-    let run : PrintsRunFront running.engine.text stream start printed = record {
-      batches = done.batches;
-      first = record { front = judged.ended stream; rest = []; split = sym (append-nil (judged.ended stream)); lines = done.sound.0; are = done.sound.1 };
-      trace = p.trace;
-      run = p.run;
-      blocks = p.blocks;
-      reported = p.reported;
-      ending = [];
-      may_end = inl refl;
-      front = p.blocks;
-      is_front = ([], refl);
-      told = p.told;
-    } in
-    subst (λ (t : Text). PrintsFront t stream start printed) same (inr run)
+-- the counts after the last part of a run, which reads nothing
+pub counted_behind : {T : Type 0} (result : Result T Stop) (reads reads' before mid after : ℕ) → reads' ≡ reads → mid ≡ before → IfErr result StopsAtLine → Counted result 0 0 mid after → Counted result reads reads' before after
+counted_behind (Ok x) reads reads' before mid after same kept kind h = (same, h.1 ∙ kept)
+counted_behind (Err NoMemory) reads reads' before mid after same kept kind h = (same, h.1 ∙ kept)
+counted_behind (Err (Refused line)) reads reads' before mid after same kept kind h = (same, h.1 ∙ kept)
+counted_behind (Err CycleLimit) reads reads' before mid after same kept kind h = (same, h.1 ∙ kept)
+counted_behind (Err PrintFault) reads reads' before mid after same kept kind h = (same, subst (λ n. Rose n after) kept h.1)
+counted_behind (Err StreamLimit) reads reads' before mid after same kept kind h = absurd kind
+counted_behind (Err EventFault) reads reads' before mid after same kept kind h = absurd kind
 
--- the last line is printed, or a front of it
-pub last_printed : (running : Running) (text : Text) (stream start bytes : List ℕ) (before after : Option (List ℕ)) (source : Option Stream) (last : Stream) (X Y : Type 0) (result : Result (Unit {0}) Stop) →
-    Finished running stream start before → running.engine.text ≡ text → bytes ≡ codes "done\n" → source ≡ Some last → last.left ≡ [] →
-    OnOk result (Appends before after bytes) → OnErr result (AppendsFront before after bytes) → MatchResult result (λ _. X) (λ stop. (stop ≡ PrintFault) × Y) →
-    MatchResult result (λ _. Reported text stream start after source) (λ stop. Stopped text stream start after source stop)
-last_printed running text stream start bytes before after source last X Y (Ok x) done laws_are bytes_are known ended all part cause =
-    let p = done.prints in
-    let whole : Reported running.engine.text stream start after source = record {
-      after = last;
-      known = known;
-      ended = ended;
-      batches = done.batches;
-      sound = done.sound;
-      trace = p.trace;
-      run = p.run;
-      report = p.blocks ++ bytes;
-      reported = report_done running.engine.text done.no_rules p.trace p.blocks bytes p.reported bytes_are;
-      told = all (start ++ p.blocks) p.told ∙ ap Some (append_assoc start p.blocks bytes);
-    } in
-    subst (λ (t : Text). Reported t stream start after source) laws_are whole
-last_printed running text stream start bytes before after source last X Y (Err stop) done laws_are bytes_are known ended all part cause =
-    let p = done.prints in
-    let f = part (start ++ p.blocks) p.told in
-    let run : PrintsRunFront running.engine.text stream start after = record {
-      batches = done.batches;
-      first = record { front = judged.ended stream; rest = []; split = sym (append-nil (judged.ended stream)); lines = done.sound.0; are = done.sound.1 };
-      trace = p.trace;
-      run = p.run;
-      blocks = p.blocks;
-      reported = p.reported;
-      ending = bytes;
-      may_end = inr (last_is_done running.engine.text done.no_rules p.trace bytes bytes_are, done.sound);
-      front = p.blocks ++ f.0;
-      is_front = front_more p.blocks f.0 bytes f.1;
-      told = f.2 ∙ ap Some (append_assoc start p.blocks f.0);
-    } in
-    rw cause.0 (subst (λ (t : Text). PrintsFront t stream start after) laws_are (inr run))
+module _ {running : Running} {stream start : List ℕ} {before : Option (List ℕ)} (done : Finished running stream start before) where
+  -- the front of the report that ends with some bytes behind its blocks
+  last_front : (ending front : List ℕ) (after : Option (List ℕ)) → MayEnd running.engine.text stream done.batches done.prints.trace ending → IsFront front (done.prints.blocks ++ ending) →
+      after ≡ Some (start ++ front) → PrintsFront running.engine.text stream start after
+  last_front ending front after may_end is_front told = inr (record {
+    batches = done.batches;
+    first = record { front = ended stream; rest = []; split = sym (append-nil (ended stream)); lines = done.sound.0; are = done.sound.1 };
+    trace = done.prints.trace;
+    run = done.prints.run;
+    blocks = done.prints.blocks;
+    reported = done.prints.reported;
+    ending = ending;
+    may_end = may_end;
+    front = front;
+    is_front = is_front;
+    told = told;
+  })
+
+  -- before the last line, what is printed is a front of the report
+  pub unended_front : PrintsFront running.engine.text stream start before
+  unended_front = last_front [] done.prints.blocks before (inl refl) ([], refl) done.prints.told
+
+  -- a front of the last line is printed
+  pub last_part : (bytes : List ℕ) (after : Option (List ℕ)) → bytes ≡ last_line (counts_of running.engine) → AppendsFront before after bytes → PrintsFront running.engine.text stream start after
+  last_part bytes after is part =
+      let p = done.prints in
+      let f = part (start ++ p.blocks) p.told in
+      last_front bytes (p.blocks ++ f.0) after (inr (last_of running.engine.text p.trace (counts_of running.engine) bytes done.counts is, done.sound)) (front_more p.blocks f.0 bytes f.1)
+      (f.2 ∙ ap Some (append_assoc start p.blocks f.0))
+
+  -- the last line is printed
+  pub last_whole : (bytes : List ℕ) (after : Option (List ℕ)) (source : Option Stream) (last : Stream) → source ≡ Some last → last.left ≡ [] → bytes ≡ last_line (counts_of running.engine) → Appends before after bytes →
+      Reported running.engine.text stream start after source (counts_of running.engine)
+  last_whole bytes after source last known none is all =
+      let p = done.prints in
+      record {
+        after = last;
+        known = known;
+        ended = none;
+        batches = done.batches;
+        sound = done.sound;
+        trace = p.trace;
+        run = p.run;
+        report = p.blocks ++ bytes;
+        reported = report_of running.engine.text p.trace (counts_of running.engine) p.blocks bytes p.reported done.counts is;
+        told = all (start ++ p.blocks) p.told ∙ ap Some (append_assoc start p.blocks bytes);
+      }
 
 module _ (engine : EngineState) (old new : Reader) {stream start : List ℕ} {printed : Option (List ℕ)} (s : Standing (record { engine = engine; reader = old }) stream (10 ∷ []) start printed) (part : IsLine old.left) where
   -- no whole line is left where the beginning of one is

@@ -1,6 +1,9 @@
 -- The answers of the top call.
 use Rattle.std.proofs.Common.{◌≡◌, ℕ, ◌<◌, ◌+◌, ◌^◌, List, length, Option, Some, Result, Ok, Err, refl, sym, subst, inl, inr, arith, IfErr, MatchResult}
-use Rattle.std.specs.Prelude.{◌↔◌}
+use Rattle.std.specs.Prelude.{◌↔◌, ◌&&◌, Bool, true, false, if◌then◌else◌, nat_eq}
+use Rattle.std.proofs.lemmas.Bool.{eqb-true}
+use Rattle.lps_lex.proofs.Bytes.{both}
+use Rattle.lps_meaning.specs.declared.goal.Counts.{Counts}
 use Rattle.lps_terms.specs.declared.text.Text.{Text}
 use Rattle.lps_terms.specs.declared.text_refused.TextRefused.TheVariants as reason
 use Rattle.lps_outside.specs.Bytes.{Stream}
@@ -9,12 +12,38 @@ use Rattle.lps_run.specs.declared.stop.Stop.TheVariants.{NoMemory, Refused, Cycl
 use Rattle.lps_run.specs.declared.answer.Answer.{Answer}
 use Rattle.lps_run.specs.declared.answer.Answer.TheVariants as answers
 use Rattle.lps_run.specs.Stopping.{Reported, Stopped, Counted, LimitIs, KeepsLimit}
-use Rattle.lps_run.specs.Answers.{Answered, AnsweredCheck, Caused, EndsBeforeRun, IsNoUsage, IsRunText, IsSilent, RefusedAs, answer_to}
+use Rattle.lps_run.specs.Answers.{Answered, AnsweredCheck, Caused, EndsBeforeRun, IsNoUsage, IsRunText, IsSilent, RefusedAs, answer_to, answer_with, is_none_open, none_open}
+
+-- ---- a whole report
+
+by_counts : (P : Answer → Type 0) (counts : Counts) → (is_none_open counts ≡ true → P answers.Done) → (is_none_open counts ≡ false → P (answers.Unfinished counts)) → P (answer_with counts)
+by_counts P counts done open_ones = by_test (is_none_open counts) refl where
+  by_test : (test : Bool) → is_none_open counts ≡ test → P (if test then answers.Done else answers.Unfinished counts)
+  by_test true is = done is
+  by_test false is = open_ones is
+
+-- what holds of both answers
+by_either : (P : Answer → Type 0) (counts : Counts) → P answers.Done → P (answers.Unfinished counts) → P (answer_with counts)
+by_either P counts done open_ones = by_counts P counts (λ is. done) (λ is. open_ones)
+
+none_is_open : (counts : Counts) → is_none_open counts ≡ true → counts ≡ none_open
+none_is_open counts is =
+    let all = both (nat_eq counts.pending 0 && nat_eq counts.failed 0) (nat_eq counts.cut 0) is in
+    let two = both (nat_eq counts.pending 0) (nat_eq counts.failed 0) all.0 in
+    λ i. record { pending = eqb-true counts.pending 0 two.0 i; failed = eqb-true counts.failed 0 two.1 i; cut = eqb-true counts.cut 0 all.1 i }
+
+whole_answered : (all : List ℕ) (text : Text) (stream start : List ℕ) (printed : Option (List ℕ)) (source : Option Stream) (counts : Counts) → IsRunText all text →
+    Reported text stream start printed source counts → Answered all stream start printed source (answer_with counts)
+whole_answered all text stream start printed source counts is h = by_counts (Answered all stream start printed source) counts
+    (λ none. (text, is, subst (Reported text stream start printed source) (none_is_open counts none) h))
+    (λ some. ((text, is, h), λ none. let apart : true ≡ false = subst (λ (n : Counts). is_none_open n ≡ false) none some in absurd cc))
+
+-- ---- the end of a run
 
 -- what a run says, as the answer for it
-pub answered : (all : List ℕ) (text : Text) (stream start : List ℕ) (printed : Option (List ℕ)) (source : Option Stream) (result : Result (Unit {0}) Stop) → IsRunText all text →
-    MatchResult result (λ _. Reported text stream start printed source) (λ stop. Stopped text stream start printed source stop) → Answered all stream start printed source (answer_to result)
-answered all text stream start printed source (Ok x) is h = (text, is, h)
+pub answered : (all : List ℕ) (text : Text) (stream start : List ℕ) (printed : Option (List ℕ)) (source : Option Stream) (result : Result Counts Stop) → IsRunText all text →
+    MatchResult result (λ counts. Reported text stream start printed source counts) (λ stop. Stopped text stream start printed source stop) → Answered all stream start printed source (answer_to result)
+answered all text stream start printed source (Ok counts) is h = whole_answered all text stream start printed source counts is h
 answered all text stream start printed source (Err NoMemory) is h = inr (text, is, h)
 answered all text stream start printed source (Err (Refused faulty)) is h = (text, is, h)
 answered all text stream start printed source (Err CycleLimit) is h = (text, is, h)
@@ -22,8 +51,8 @@ answered all text stream start printed source (Err StreamLimit) is h = (text, is
 answered all text stream start printed source (Err EventFault) is h = (text, is, h)
 answered all text stream start printed source (Err PrintFault) is h = (text, is, h)
 
-pub run_caused : (faults reads reads' prints prints' : ℕ) (result : Result (Unit {0}) Stop) → Counted result reads reads' prints prints' → Caused (answer_to result) faults faults reads reads' prints prints'
-run_caused faults reads reads' prints prints' (Ok x) c = (refl, c.0, c.1)
+pub run_caused : (faults reads reads' prints prints' : ℕ) (result : Result Counts Stop) → Counted result reads reads' prints prints' → Caused (answer_to result) faults faults reads reads' prints prints'
+run_caused faults reads reads' prints prints' (Ok counts) c = by_either (λ answer. Caused answer faults faults reads reads' prints prints') counts (refl, c.0, c.1) (refl, c.0, c.1)
 run_caused faults reads reads' prints prints' (Err NoMemory) c = (refl, c.0, c.1)
 run_caused faults reads reads' prints prints' (Err (Refused line)) c = (refl, c.0, c.1)
 run_caused faults reads reads' prints prints' (Err CycleLimit) c = (refl, c.0, c.1)
@@ -31,8 +60,8 @@ run_caused faults reads reads' prints prints' (Err StreamLimit) c = (refl, c.0, 
 run_caused faults reads reads' prints prints' (Err EventFault) c = (refl, c.0, c.1)
 run_caused faults reads reads' prints prints' (Err PrintFault) c = (refl, c.0, c.1)
 
-pub run_no_usage : (result : Result (Unit {0}) Stop) → IsNoUsage (answer_to result)
-run_no_usage (Ok x) = tt
+pub run_no_usage : (result : Result Counts Stop) → IsNoUsage (answer_to result)
+run_no_usage (Ok counts) = by_either IsNoUsage counts tt tt
 run_no_usage (Err NoMemory) = tt
 run_no_usage (Err (Refused line)) = tt
 run_no_usage (Err CycleLimit) = tt
@@ -40,8 +69,8 @@ run_no_usage (Err StreamLimit) = tt
 run_no_usage (Err EventFault) = tt
 run_no_usage (Err PrintFault) = tt
 
-pub run_speaks : (result : Result (Unit {0}) Stop) → IsSilent (answer_to result) → ⊥
-run_speaks (Ok x) h = h
+pub run_speaks : (result : Result Counts Stop) → IsSilent (answer_to result) → ⊥
+run_speaks (Ok counts) h = by_either (λ answer. IsSilent answer → ⊥) counts (λ s. s) (λ s. s) h
 run_speaks (Err NoMemory) h = h
 run_speaks (Err (Refused line)) h = h
 run_speaks (Err CycleLimit) h = h
@@ -49,8 +78,9 @@ run_speaks (Err StreamLimit) h = h
 run_speaks (Err EventFault) h = h
 run_speaks (Err PrintFault) h = h
 
-limit_of : (before after : ℕ) (result : Result (Unit {0}) Stop) → LimitIs 0 before after result → (answer_to result ≡ answers.StreamLimit) ↔ (2 ^ 36 + after < before)
-limit_of before after (Ok x) h = ((λ e. absurd cc), (λ over. absurd (omega arith)))
+limit_of : (before after : ℕ) (result : Result Counts Stop) → LimitIs 0 before after result → (answer_to result ≡ answers.StreamLimit) ↔ (2 ^ 36 + after < before)
+limit_of before after (Ok counts) h =
+    by_either (λ answer. (answer ≡ answers.StreamLimit) ↔ (2 ^ 36 + after < before)) counts ((λ e. absurd cc), (λ over. absurd (omega arith))) ((λ e. absurd cc), (λ over. absurd (omega arith)))
 limit_of before after (Err NoMemory) h = ((λ e. absurd cc), (λ over. absurd (omega arith)))
 limit_of before after (Err (Refused line)) h = ((λ e. absurd cc), (λ over. absurd (omega arith)))
 limit_of before after (Err CycleLimit) h = ((λ e. absurd cc), (λ over. absurd (omega arith)))
@@ -59,7 +89,7 @@ limit_of before after (Err EventFault) h = ((λ e. absurd cc), (λ over. absurd 
 limit_of before after (Err PrintFault) h = ((λ e. absurd cc), (λ over. absurd (omega arith)))
 
 -- the limit is the answer of a run exactly where it was passed
-pub run_limit : (before after : Stream) (source : Option Stream) (result : Result (Unit {0}) Stop) → KeepsLimit before result source → source ≡ Some after →
+pub run_limit : (before after : Stream) (source : Option Stream) (result : Result Counts Stop) → KeepsLimit before result source → source ≡ Some after →
     (answer_to result ≡ answers.StreamLimit) ↔ (2 ^ 36 + length after.left < length before.left)
 run_limit before after source result kept known =
     let same : kept.after ≡ after = cc (kept.known, known) in
@@ -77,6 +107,7 @@ early_no_usage (answers.TextRefused reason) h = tt
 early_no_usage answers.TextFault h = tt
 early_no_usage answers.NoMemory h = tt
 early_no_usage answers.Done h = tt
+early_no_usage (answers.Unfinished counts) h = tt
 early_no_usage answers.Checked h = tt
 early_no_usage answers.CycleLimit h = tt
 early_no_usage (answers.Usage kind) h = h
@@ -94,6 +125,7 @@ early_answered all stream start printed source (answers.TextRefused (reason.NotA
 early_answered all stream start printed source answers.TextFault h told = told
 early_answered all stream start printed source answers.NoMemory h told = inl told
 early_answered all stream start printed source answers.Done h told = absurd h
+early_answered all stream start printed source (answers.Unfinished counts) h told = absurd h
 early_answered all stream start printed source answers.Checked h told = absurd h
 early_answered all stream start printed source (answers.Usage u) h told = absurd h
 early_answered all stream start printed source (answers.BatchRefused line k) h told = absurd h
@@ -109,6 +141,7 @@ early_checked all start printed (answers.TextRefused (reason.NotAccepted refused
 early_checked all start printed answers.TextFault h told = told
 early_checked all start printed answers.NoMemory h told = told
 early_checked all start printed answers.Done h told = absurd h
+early_checked all start printed (answers.Unfinished counts) h told = absurd h
 early_checked all start printed answers.Checked h told = absurd h
 early_checked all start printed (answers.Usage u) h told = absurd h
 early_checked all start printed (answers.BatchRefused line k) h told = absurd h
@@ -123,6 +156,7 @@ early_caused (answers.TextRefused reason) texts texts' reads prints kind c = (c.
 early_caused answers.TextFault texts texts' reads prints kind c = (c.0, refl, refl)
 early_caused answers.NoMemory texts texts' reads prints kind c = (c.0, refl, refl)
 early_caused answers.Done texts texts' reads prints kind c = absurd kind
+early_caused (answers.Unfinished counts) texts texts' reads prints kind c = absurd kind
 early_caused answers.Checked texts texts' reads prints kind c = absurd kind
 early_caused answers.CycleLimit texts texts' reads prints kind c = absurd kind
 early_caused (answers.Usage u) texts texts' reads prints kind c = absurd kind

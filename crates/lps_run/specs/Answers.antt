@@ -1,10 +1,11 @@
 -- The answers of the top call.
-use Rattle.std.specs.Prelude.{◌≡◌, ◌⊎◌, ℕ, List, [], ◌++◌, Option, Some, None, Result, Ok, Err}
+use Rattle.std.specs.Prelude.{◌≡◌, ◌⊎◌, ◌&&◌, ℕ, Bool, List, [], ◌++◌, Option, Some, None, Result, Ok, Err, if◌then◌else◌, nat_eq}
 use Rattle.lps_terms.specs.declared.refused.Refused.{Refused}
 use Rattle.lps_terms.specs.declared.text.Text.{Text}
 use Rattle.lps_terms.specs.declared.text_refused.TextRefused.{TextRefused as Reason}
 use Rattle.lps_terms.specs.declared.text_refused.TextRefused.TheVariants as reason
 use Rattle.lps_model.specs.Acceptance.{IsAccepted, IsRefusedFor}
+use Rattle.lps_meaning.specs.declared.goal.Counts.{Counts}
 use Rattle.lps_reader.specs.Refusals.{IsRefusal}
 use Rattle.lps_printer.specs.Statements.{canonical}
 use Rattle.lps_reader.specs.Texts.{IsTextOf}
@@ -15,12 +16,13 @@ use Rattle.lps_run.specs.Stopping.{PrintsFront, Reported, EndsAtLimit, EndsAtLin
 use Rattle.lps_run.specs.declared.stop.Stop.{Stop}
 use Rattle.lps_run.specs.declared.stop.Stop.TheVariants as stops
 use Rattle.lps_run.specs.declared.answer.Answer.{Answer}
-use Rattle.lps_run.specs.declared.answer.Answer.TheVariants.{Done, Checked, Usage, TextRefused, BatchRefused, CycleLimit, StreamLimit, TextFault, EventFault, PrintFault, NoMemory}
+use Rattle.lps_run.specs.declared.answer.Answer.TheVariants.{Done, Unfinished, Checked, Usage, TextRefused, BatchRefused, CycleLimit, StreamLimit, TextFault, EventFault, PrintFault, NoMemory}
 
 -- the exit code
 abbrev pub code_of : Answer → ℕ
 code_of Done = 0
 code_of Checked = 0
+code_of (Unfinished counts) = 1
 code_of (Usage kind) = 2
 code_of (TextRefused reason) = 3
 code_of (BatchRefused line kind) = 4
@@ -31,9 +33,20 @@ code_of EventFault = 7
 code_of PrintFault = 7
 code_of NoMemory = 8
 
+-- no goal is pending, failed or cut
+abbrev pub none_open : Counts
+none_open = record { pending = 0; failed = 0; cut = 0 }
+
+abbrev pub is_none_open : Counts → Bool
+is_none_open counts = nat_eq counts.pending 0 && nat_eq counts.failed 0 && nat_eq counts.cut 0
+
+-- the answer for a whole report with these counts
+abbrev pub answer_with : Counts → Answer
+answer_with counts = if is_none_open counts then Done else Unfinished counts
+
 -- the answer for the end of a run
-abbrev pub answer_to : Result (Unit {0}) Stop → Answer
-answer_to (Ok x) = Done
+abbrev pub answer_to : Result Counts Stop → Answer
+answer_to (Ok counts) = answer_with counts
 answer_to (Err stops.NoMemory) = NoMemory
 answer_to (Err (stops.Refused faulty)) = BatchRefused faulty.line faulty.kind
 answer_to (Err stops.CycleLimit) = CycleLimit
@@ -59,10 +72,15 @@ IsRefusedRun all (reason.Read refusal) = IsRefusal all refusal
 IsRefusedRun all (reason.NotAccepted refused) = IsRefusedText all refused
 IsRefusedRun all (reason.NotBuilt line) = (text : Text) × IsAcceptedText all text × (not_built text ≡ Some line)
 
+-- the whole report of a run of the text over the stream is printed, with these counts in its last line
+abbrev pub AnsweredWhole : List ℕ → List ℕ → List ℕ → Option (List ℕ) → Option Stream → Counts → Type 0
+AnsweredWhole all stream start printed source counts = (text : Text) × IsRunText all text × Reported text stream start printed source counts
+
 -- What each answer of a run says of the bytes of a text, of the bytes of a stream, of what was printed since `start`, and of
 -- what is left of the stream.
 abbrev pub Answered : List ℕ → List ℕ → List ℕ → Option (List ℕ) → Option Stream → Answer → Type 0
-Answered all stream start printed source Done = (text : Text) × IsRunText all text × Reported text stream start printed source
+Answered all stream start printed source Done = AnsweredWhole all stream start printed source none_open
+Answered all stream start printed source (Unfinished counts) = AnsweredWhole all stream start printed source counts × (counts ≡ none_open → ⊥)
 Answered all stream start printed source Checked = ⊥
 Answered all stream start printed source (Usage kind) = ⊥
 Answered all stream start printed source (TextRefused reason) = IsRefusedRun all reason × (printed ≡ Some start)

@@ -1,16 +1,16 @@
 -- What stands between two lines of the stream.
-use Rattle.std.specs.Prelude.{◌≡◌, ℕ, suc, List, [], ◌∷◌, ◌++◌, Option, Some, None}
+use Rattle.std.specs.Prelude.{◌≡◌, ℕ, suc, List, ◌∷◌, ◌++◌, Option, Some, None}
 use Rattle.lps_terms.specs.declared.atom.Atom.{Atom}
+use Rattle.lps_terms.specs.declared.prefer.Prefer.TheVariants.{Oldest}
 use Rattle.lps_model.specs.declared.batch.Batch.{Batch}
 use Rattle.lps_model.specs.declared.trace.Trace.{Trace}
 use Rattle.lps_batches.specs.LinesAhead.{IsLine}
 use Rattle.lps_batches.specs.Lines.{IsBatchLine}
-use Rattle.lps_model.specs.Rules.{rules}
 use Rattle.lps_outside.specs.Bytes.{Stream}
 use Rattle.lps_run.specs.declared.stream.Running.{Running}
-use Rattle.lps_cycle.specs.Engine.{Stands}
+use Rattle.lps_cycle.specs.Engine.{Stands, counts_of}
 use Rattle.lps_run.specs.Judged.{AreWhole, IsSound, ended}
-use Rattle.lps_run.specs.Reporting.{AreAllBlocks}
+use Rattle.lps_run.specs.Reporting.{AreAllBlocks, AreCountsOf}
 use Rattle.lps_run.specs.Stopping.{PrintsBlocks}
 
 -- Whole lines of the stream are taken, some bytes after them are fed to the reader, and `rest` is what follows. The run over
@@ -21,6 +21,7 @@ pub record Made (running : Running) (stream rest blocks : List ℕ) : Type 0 whe
   pub split : ended stream ≡ taken ++ (running.reader.left ++ rest)
   pub batches : List (List Atom)
   pub are : AreWhole running.engine.text taken batches running.reader.lines
+  pub oldest : running.engine.prefer ≡ Oldest
   pub trace : Trace
   pub stands : Stands running.engine batches trace
   pub reported : AreAllBlocks running.engine.text trace blocks
@@ -42,6 +43,7 @@ pub record Due (running : Running) (stream rest start : List ℕ) (printed : Opt
   pub are : AreWhole running.engine.text taken batches lines
   pub place : running.reader.lines ≡ suc lines
   pub is : IsBatchLine line batch
+  pub oldest : running.engine.prefer ≡ Oldest
   pub trace : Trace
   pub stands : Stands running.engine batches trace
   pub blocks : List ℕ
@@ -55,9 +57,9 @@ pub record Reading (running : Running) (stream start : List ℕ) (printed : Opti
   pub standing : Standing running stream (ended last.left) start printed
   pub part : IsLine running.reader.left
 
--- no line of the stream is faulty, and the blocks of all its cycles are printed
+-- no line of the stream is faulty, the blocks of all its cycles are printed, and the engine has the counts of the run
 pub record Finished (running : Running) (stream start : List ℕ) (printed : Option (List ℕ)) : Type 0 where
   pub batches : List (List Atom)
   pub sound : IsSound running.engine.text stream batches
   pub prints : PrintsBlocks running.engine.text batches start printed
-  pub no_rules : rules running.engine.text ≡ []
+  pub counts : AreCountsOf running.engine.text prints.trace (counts_of running.engine)

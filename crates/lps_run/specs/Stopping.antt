@@ -1,8 +1,10 @@
 -- How a run ends, and what is printed then.
 use Rattle.std.specs.Prelude.{◌≡◌, ◌⊎◌, ℕ, ◌+◌, ◌^◌, ◌<◌, ◌≤◌, List, [], ◌++◌, length, Option, Some, Result, Ok, Err}
 use Rattle.lps_terms.specs.declared.atom.Atom.{Atom}
+use Rattle.lps_terms.specs.declared.prefer.Prefer.TheVariants.{Oldest}
 use Rattle.lps_terms.specs.declared.text.Text.{Text}
 use Rattle.lps_model.specs.declared.trace.Trace.{Trace}
+use Rattle.lps_meaning.specs.declared.goal.Counts.{Counts}
 use Rattle.lps_cycle.specs.Engine.{IsRunOver}
 use Rattle.lps_batches.specs.declared.batch_bad.BatchBad.{BatchBad}
 use Rattle.lps_batches.specs.LinesAhead.{IsLine}
@@ -16,7 +18,7 @@ use Rattle.lps_run.specs.Reporting.{AreAllBlocks, IsLastLine, IsWholeReport}
 -- what was printed since `start` are exactly the blocks of the run over these batches
 pub record PrintsBlocks (text : Text) (batches : List (List Atom)) (start : List ℕ) (printed : Option (List ℕ)) : Type 0 where
   pub trace : Trace
-  pub run : IsRunOver text batches trace
+  pub run : IsRunOver text Oldest batches trace
   pub blocks : List ℕ
   pub reported : AreAllBlocks text trace blocks
   pub told : printed ≡ Some (start ++ blocks)
@@ -31,7 +33,7 @@ pub record PrintsRunFront (text : Text) (stream start : List ℕ) (printed : Opt
   pub batches : List (List Atom)
   pub first : HasFirst text stream batches
   pub trace : Trace
-  pub run : IsRunOver text batches trace
+  pub run : IsRunOver text Oldest batches trace
   pub blocks : List ℕ
   pub reported : AreAllBlocks text trace blocks
   pub ending : List ℕ
@@ -44,18 +46,18 @@ pub record PrintsRunFront (text : Text) (stream start : List ℕ) (printed : Opt
 abbrev pub PrintsFront : Text → List ℕ → List ℕ → Option (List ℕ) → Type 0
 PrintsFront text stream start printed = (printed ≡ Some start) ⊎ PrintsRunFront text stream start printed
 
--- The whole report of the run over the batches of the stream was printed since `start`. The stream was read to its end,
--- and no line of it is faulty.
-pub record Reported (text : Text) (stream start : List ℕ) (printed : Option (List ℕ)) (source : Option Stream) : Type 0 where
+-- The whole report of the run over the batches of the stream was printed since `start`, with these counts in its last line. The
+-- stream was read to its end, and no line of it is faulty.
+pub record Reported (text : Text) (stream start : List ℕ) (printed : Option (List ℕ)) (source : Option Stream) (counts : Counts) : Type 0 where
   pub after : Stream
   pub known : source ≡ Some after
   pub ended : after.left ≡ []
   pub batches : List (List Atom)
   pub sound : IsSound text stream batches
   pub trace : Trace
-  pub run : IsRunOver text batches trace
+  pub run : IsRunOver text Oldest batches trace
   pub report : List ℕ
-  pub reported : IsWholeReport text trace report
+  pub reported : IsWholeReport text trace counts report
   pub told : printed ≡ Some (start ++ report)
 
 -- The run ended at a read that took the bytes `last`. The bytes taken before are whole lines and the beginning of one. What
@@ -103,20 +105,27 @@ StopsAtLine PrintFault = Unit {0}
 StopsAtLine StreamLimit = ⊥
 StopsAtLine EventFault = ⊥
 
--- how the counts of faults stand: of the source, and of the desk
+-- how the counts of faults stand where a run ended early: of the source, and of the desk
+abbrev pub CountedAt : Stop → ℕ → ℕ → ℕ → ℕ → Type 0
+CountedAt EventFault reads reads' prints prints' = Rose reads reads' × (prints' ≡ prints)
+CountedAt PrintFault reads reads' prints prints' = (reads' ≡ reads) × Rose prints prints'
+CountedAt NoMemory reads reads' prints prints' = (reads' ≡ reads) × (prints' ≡ prints)
+CountedAt (Refused faulty) reads reads' prints prints' = (reads' ≡ reads) × (prints' ≡ prints)
+CountedAt CycleLimit reads reads' prints prints' = (reads' ≡ reads) × (prints' ≡ prints)
+CountedAt StreamLimit reads reads' prints prints' = (reads' ≡ reads) × (prints' ≡ prints)
+
 abbrev pub Counted : {T : Type 0} → Result T Stop → ℕ → ℕ → ℕ → ℕ → Type 0
 Counted (Ok x) reads reads' prints prints' = (reads' ≡ reads) × (prints' ≡ prints)
-Counted (Err EventFault) reads reads' prints prints' = Rose reads reads' × (prints' ≡ prints)
-Counted (Err PrintFault) reads reads' prints prints' = (reads' ≡ reads) × Rose prints prints'
-Counted (Err NoMemory) reads reads' prints prints' = (reads' ≡ reads) × (prints' ≡ prints)
-Counted (Err (Refused faulty)) reads reads' prints prints' = (reads' ≡ reads) × (prints' ≡ prints)
-Counted (Err CycleLimit) reads reads' prints prints' = (reads' ≡ reads) × (prints' ≡ prints)
-Counted (Err StreamLimit) reads reads' prints prints' = (reads' ≡ reads) × (prints' ≡ prints)
+Counted (Err stop) reads reads' prints prints' = CountedAt stop reads reads' prints prints'
 
 -- more bytes were taken than a stream may have exactly where this is the answer; `taken` were taken before
+abbrev pub LimitAt : ℕ → ℕ → ℕ → Stop → Type 0
+LimitAt taken before after StreamLimit = 2 ^ 36 + after < taken + before
+LimitAt taken before after _ = taken + before ≤ 2 ^ 36 + after
+
 abbrev pub LimitIs : {T : Type 0} → ℕ → ℕ → ℕ → Result T Stop → Type 0
-LimitIs taken before after (Err StreamLimit) = 2 ^ 36 + after < taken + before
-LimitIs taken before after _ = taken + before ≤ 2 ^ 36 + after
+LimitIs taken before after (Ok x) = taken + before ≤ 2 ^ 36 + after
+LimitIs taken before after (Err stop) = LimitAt taken before after stop
 
 -- at `Ok` so many bytes were taken, and none only at the end
 abbrev pub TakesCount : ℕ → ℕ → Result ℕ Stop → Type 0
@@ -131,7 +140,7 @@ pub record TakesWithin (taken : ℕ) (before : Stream) (result : Result ℕ Stop
   pub count : TakesCount (length before.left) (length after.left) result
 
 -- the source tells its bytes, and more were taken than a stream may have exactly where this is the answer
-pub record KeepsLimit (before : Stream) (result : Result (Unit {0}) Stop) (source : Option Stream) : Type 0 where
+pub record KeepsLimit {T : Type 0} (before : Stream) (result : Result T Stop) (source : Option Stream) : Type 0 where
   pub after : Stream
   pub known : source ≡ Some after
   pub limit : LimitIs 0 (length before.left) (length after.left) result

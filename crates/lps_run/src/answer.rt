@@ -1,7 +1,8 @@
 ghost use Rattle.std.specs.Prelude.{◌≡◌};
-ghost use Rattle.lps_run.specs.Answers.{answer_to, code_of};
+ghost use Rattle.lps_run.specs.Answers.{answer_to, answer_with as answer_with_of, code_of};
 
 use crate::stop::Stop;
+use lps_meaning::Counts;
 use lps_reader::BatchBad;
 use lps_terms::{BatchKind, TextRefused};
 use std::fmt;
@@ -16,8 +17,10 @@ pub enum UsageKind {
 /// How a call of `lps` ended.
 #[derive(Debug, Drop)]
 pub enum Answer {
-    /// The stream was read to its end, and the whole report is printed.
+    /// The stream was read to its end, and the whole report is printed; each goal is solved.
     Done,
+    /// The stream was read to its end, and the whole report is printed; so many goals are not solved.
+    Unfinished(Counts),
     /// The canonical text of the text is printed.
     Checked,
     Usage(UsageKind),
@@ -42,6 +45,7 @@ impl Answer {
     {
         match self {
             Answer::Done => 0,
+            Answer::Unfinished(_) => 1,
             Answer::Checked => 0,
             Answer::Usage(_) => 2,
             Answer::TextRefused(_) => 3,
@@ -56,11 +60,18 @@ impl Answer {
     }
 }
 
-/// What the program writes of an answer on standard error.
+/// An answer in words, which the program writes on standard error for codes from 2 on.
 impl fmt::Display for Answer {
     fn fmt<W: fmt::Write>(&self, f: &mut fmt::Formatter<W>) -> fmt::Result {
         match self {
             Answer::Done => write!(f, "done"),
+            Answer::Unfinished(
+                Counts {
+                    pending,
+                    failed,
+                    cut,
+                },
+            ) => write!(f, "open {pending} failed {failed} cut {cut}"),
             Answer::Checked => write!(f, "checked"),
             Answer::Usage(UsageKind::Words) => write!(f, "usage"),
             Answer::TextRefused(reason) => write!(f, "{reason}"),
@@ -75,12 +86,23 @@ impl fmt::Display for Answer {
     }
 }
 
+/// The answer for a whole report with these counts.
+fn answer_with(counts: Counts) -> Answer
+    ensures { result ≡ answer_with_of counts }
+{
+    if counts.pending == 0 && counts.failed == 0 && counts.cut == 0 {
+        Answer::Done
+    } else {
+        Answer::Unfinished(counts)
+    }
+}
+
 /// The answer for the end of a run.
-pub fn answer_of(run: Result<(), Stop>) -> Answer
+pub fn answer_of(run: Result<Counts, Stop>) -> Answer
     ensures { result ≡ answer_to run }
 {
     match run {
-        Ok(()) => Answer::Done,
+        Ok(counts) => answer_with(counts),
         Err(Stop::NoMemory) => Answer::NoMemory,
         Err(Stop::Refused(BatchBad { line, kind })) => Answer::BatchRefused { line, kind },
         Err(Stop::CycleLimit) => Answer::CycleLimit,

@@ -139,10 +139,13 @@ fn answer_command<T: Texts, E: Source, D: Desk>(
 /// and prints the report of the run: the block of cycle 0, a block for each batch as soon as its line has ended, and the last
 /// line. `check TEXT` prints the canonical text of the text.
 ///
+/// Where the stream was read to its end and the report is whole, `Done` says that each goal is solved, and `Unfinished` how many are
+/// pending, have failed and are cut.
+///
 /// `Usage` comes where the words are no command; `TextRefused` where the text is too long, is no text, is not accepted, or,
-/// for `run`, has a statement that is not run yet; `BatchRefused` at the first line of the stream that is not the batch of its cycle;
-/// `CycleLimit` at a batch after 1,000,000 cycles; `StreamLimit` where more than 68,719,476,736 bytes were taken from the
-/// stream. A fault is that of the object which failed. What was printed before an answer stays; nothing is printed before the
+/// for `run`, has a statement that is not run yet: a macro clause, or a rule with an alternative that calls a macro.
+/// `BatchRefused` comes at the first line of the stream that is not the batch of its cycle; `CycleLimit` at a batch after 1,000,000
+/// cycles; `StreamLimit` where more than 68,719,476,736 bytes were taken from the stream. A fault is that of the object which failed. What was printed before an answer stays; nothing is printed before the
 /// text is read.
 pub fn lps<T: Texts, E: Source, D: Desk>(
     alloc: Global,

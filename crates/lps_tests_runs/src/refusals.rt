@@ -31,7 +31,7 @@ fn refused_lines(rt: HostRuntime) -> Result<(), Fail> {
 }
 
 /// Texts that are not read, not accepted, or not run so far, and why.
-const TEXTS: [(&str, &str); 7] = [
+const TEXTS: [(&str, &str); 8] = [
     ("fluent p/0", "text line 1: bad syntax"),
     ("initially q.\np ! q.\n", "text line 2: bad byte"),
     (
@@ -44,8 +44,14 @@ const TEXTS: [(&str, &str); 7] = [
     ),
     ("derived d.\nd if not d.\n", "unlevelled d"),
     (
-        "fluent q/0. action a/0. derived d.\nd if not q.\nif q at T then a from T to T1.\n",
+        "fluent q/0. action a/0. macro m.\nif q at T then a from T to T1.\n\
+            if q at T then a from T to T1 or m from T to T1.\n",
         "text line 3: not built",
+    ),
+    (
+        "event e/0. action a/0. macro m.\nif e from T to T1 then a from T1 to T2, m from T2 to T3.\n\
+            m from T1 to T2 if a from T1 to T2.\n",
+        "text line 2: not built",
     ),
     (
         "action a/0. macro m.\n\nm from T1 to T2 if a from T1 to T2.\n",

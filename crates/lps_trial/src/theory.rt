@@ -70,6 +70,13 @@ impl Theory {
         self.program.text()
     }
 
+    /// The text, to be searched.
+    pub fn program(&self) -> &Program
+        ensures { result.now ≡ self.now }
+    {
+        &self.program
+    }
+
     /// What holds of the text. It does nothing.
     pub(crate) fn lawful(&self)
         ensures accepted { IsAccepted self.now }

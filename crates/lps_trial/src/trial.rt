@@ -86,6 +86,13 @@ impl Trial {
         &self.state
     }
 
+    /// The facts of the state after the events so far.
+    pub fn next(&self) -> &Facts
+        ensures { result.now ≡ self.now.next }
+    {
+        &self.next
+    }
+
     /// The events so far, in the order in which they were tried.
     pub fn events(&self) -> &[Atom]
         ensures { result.now ≡ self.now.events }

@@ -6,7 +6,7 @@ use Rattle.lps_model.specs.declared.verdict.Verdict.{Verdict}
 use Rattle.lps_facts.specs.Facts.{TrailedSet, members}
 use Rattle.lps_trial.proofs.Trials.{longer_itself, longer_still}
 use Rattle.lps_cycle.specs.Admission.{AreAdmitted, IsVerdictIn, MayCome}
-use Rattle.lps_cycle.proofs.Updating.{AreSoFar, all_judged, may_be_event, none_yet, one_more}
+use Rattle.lps_cycle.proofs.RoundsJudged.{AreSoFar, all_judged, may_be_event, none_yet, one_more}
 use Rattle.lps_cycle.proofs.admission.admit.Goals as goal
 
 pub returns-in_err-verdicts-clause-longer : goal.returns-in_err-verdicts-clause-longer

@@ -3,7 +3,7 @@ use Rattle.std.specs.List.{AllByRecursion}
 use Rattle.lps_facts.specs.Facts.{members}
 use Rattle.lps_trial.specs.Trial.{IsLonger, IsTrial}
 use Rattle.lps_cycle.specs.Admission.{MayCome}
-use Rattle.lps_cycle.proofs.Updating.{AreSoFar}
+use Rattle.lps_cycle.proofs.RoundsJudged.{AreSoFar}
 use Rattle.lps_cycle.proofs.admission.admit.Given as goal
 
 abbrev pub invariant-loop-event : goal.invariant-loop-event

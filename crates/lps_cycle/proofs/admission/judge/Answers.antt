@@ -2,7 +2,7 @@ use Rattle.std.proofs.Common.{◌∙◌, ap, sym, List, ◌++◌, Some, None}
 use Rattle.std.proofs.lemmas.List.{append-nil}
 use Rattle.lps_terms.specs.declared.atom.Atom.{Atom}
 use Rattle.lps_trial.specs.Trial.{TrialState}
-use Rattle.lps_cycle.proofs.Updating.{judged_so, one_event}
+use Rattle.lps_cycle.proofs.RoundsJudged.{judged_so, one_event}
 use Rattle.lps_cycle.proofs.admission.judge.Goals as goal
 
 pub try_events-requires-clause-events : goal.try_events-requires-clause-events

@@ -14,6 +14,6 @@ pub returns-clause-told : goal.returns-clause-told
 returns-clause-told g c = λ before start known told.
     let same : c.deref_mut.result.now.engine.text ≡ c.args.text = ap (λ (running : Running). running.engine.text) c.deref_mut.ensures.value ∙ c.in_ok-running.ensures.text in
     subst
-    (λ (t : Text). MatchResult c.report.result (λ x. Reported t before.left start (g.D.Desk.printed c.report.new.desk) (g.E.Source.stream c.report.new.events))
+    (λ (t : Text). MatchResult c.report.result (λ counts. Reported t before.left start (g.D.Desk.printed c.report.new.desk) (g.E.Source.stream c.report.new.events) counts)
     (λ stop. Stopped t before.left start (g.D.Desk.printed c.report.new.desk) (g.E.Source.stream c.report.new.events) stop))
     same (c.report.ensures.told before start known told)

@@ -1,11 +1,11 @@
 use Rattle.std.proofs.Common.{◌≡◌, ◌∙◌, None, sym}
 use Rattle.lps_run.specs.Built.{not_built}
-use Rattle.lps_run.proofs.WithoutRules.{built_has_no_rules}
+use Rattle.lps_run.proofs.CallFree.{built_is_call_free}
 use Rattle.lps_run.proofs.Tops.{answered, run_limit}
 use Rattle.lps_run.proofs.top.run_text.Goals as goal
 
 pub run-requires : goal.run-requires
-run-requires g c = built_has_no_rules c.args.text (sym c.not_built.ensures ∙ c.in-None.is)
+run-requires g c = built_is_call_free c.args.text (sym c.not_built.ensures ∙ c.in-None.is)
 
 pub returns-in-None-clause-limit : goal.returns-in-None-clause-limit
 returns-in-None-clause-limit g c = λ before after known is. rw c.answer_of.ensures (run_limit before after _ c.run.result (c.run.ensures.limit before known) is)

@@ -1,40 +1,48 @@
-use Rattle.std.proofs.Common.{◌≡◌, ◌∙◌, ap, sym, subst, arith, List, [], true}
-use Rattle.lps_terms.specs.declared.statement.Statement.{Statement}
+use Rattle.std.proofs.Common.{◌≡◌, ◌∙◌, [], List, ℕ, sym, ap, subst}
+use Rattle.std.specs.Prelude.{Contains}
+use Rattle.lps_terms.specs.declared.atom.Atom.{Atom}
 use Rattle.lps_terms.specs.declared.text.Text.{Text}
-use Rattle.lps_model.specs.Run.{first_trace}
-use Rattle.lps_facts.specs.Facts.{members, with_facts}
-use Rattle.lps_model.specs.Rules.{rules}
-use Rattle.lps_trial.specs.Trial.{IsTrial, TrialState}
+use Rattle.lps_model.specs.declared.trace.Trace.{Trace}
+use Rattle.lps_model.specs.Acceptance.{IsAccepted}
+use Rattle.lps_model.specs.Clauses.{clauses}
+use Rattle.lps_model.specs.Formed.{is_formed}
+use Rattle.lps_model.specs.Run.{AreInitial, first_trace}
+use Rattle.lps_derivation.specs.Levels.{AreLevels}
+use Rattle.lps_facts.specs.Facts.{members}
+use Rattle.lps_meeting.specs.Stages.{IsStateOf}
+use Rattle.lps_cycle.specs.Agenda.{BeginsWith}
 use Rattle.lps_cycle.specs.Engine.{Stands}
-use Rattle.lps_cycle.proofs.Initial.{initial, initial_exact, initial_are_fluents, nothing}
-use Rattle.lps_cycle.proofs.Runs.{stands_first}
+use Rattle.lps_cycle.specs.Making.{failed_among}
+use Rattle.lps_cycle.specs.Round.{RoundState}
+use Rattle.lps_cycle.proofs.Standing.{engine_with, first_of_some, stands_first}
 use Rattle.lps_cycle.proofs.engine.Engine.start.Goals as goal
 
-pub new-trial-requires : goal.new-trial-requires
-new-trial-requires c = c.in_ok-same.ensures ∙ sym c.in_ok-facts.ensures
+pub start-requires-clause-ground : goal.start-requires-clause-ground
+start-requires-clause-ground c a there =
+    let same : members c.state.result.now ≡ c.deref.result.now.facts = c.state.ensures ∙ ap (λ (r : RoundState). r.facts) (c.deref-4.ensures ∙ sym c.deref.ensures) in
+    (c.lawful.ensures.facts.each a (subst (λ (fs : List Atom). Contains fs a) same there)).ground
 
-pub invariant_of-result : goal.invariant_of-result
-invariant_of-result c =
-    let text : Text = c.args.text in
-    let statements : c.as_slice-statements.result.now ≡ text.statements = c.as_slice-statements.ensures ∙ ap (λ (t : Text). t.statements) c.text-2.ensures.same in
-    let facts = c.in_ok-facts.facts in
-    let is = initial_exact text (members facts) (ap members c.in_ok-facts.ensures ∙ ap (λ (ss : List Statement). members (with_facts true (initial ss) nothing)) statements) in
-    let fluents = initial_are_fluents text c.text-2.ensures.accepted c.text-2.ensures.formed (members facts) is in
-    let there = c.in_ok-theory.ensures in (
-      ap rules there ∙ c.requires,
-      subst (λ (t : Text). IsTrial t c.new-trial.result) (sym there) (c.new-trial.ensures.trial text fluents),
-      ap (λ (t : TrialState). t.events) c.new-trial.ensures.anew,
-      omega arith,
-    )
+pub start-requires-clause-some : goal.start-requires-clause-some
+start-requires-clause-some c =
+    let round = c.in_ok-round.round.value in
+    let there : c.program-2.result.now ≡ c.args.text = c.program-2.ensures ∙ ap (λ (r : RoundState). r.text) c.deref-3.ensures ∙ c.in_ok-round.ensures.text in
+    let lawful : c.program.result.now ≡ c.args.text = c.program.ensures ∙ ap (λ (r : RoundState). r.text) c.deref-2.ensures ∙ c.in_ok-round.ensures.text in
+    let same : members c.state.result.now ≡ round.facts = c.state.ensures ∙ ap (λ (r : RoundState). r.facts) c.deref-4.ensures in
+    subst (λ (t : Text). (level : List ℕ → ℕ) × AreLevels (clauses t) level × (trace : Trace) × IsStateOf t level trace 0 (members c.state.result.now)) (sym there)
+    (first_of_some c.args.text (subst IsAccepted lawful c.lawful-2.ensures.accepted) (ap is_formed (sym lawful) ∙ c.lawful-2.ensures.formed) (members c.state.result.now)
+    (subst (AreInitial c.args.text) (sym same) c.in_ok-round.ensures.facts))
 
 pub returns-clause-stands : goal.returns-clause-stands
 returns-clause-stands c =
-    let text : Text = c.args.text in
-    let statements : c.as_slice-statements.result.now ≡ text.statements = c.as_slice-statements.ensures ∙ ap (λ (t : Text). t.statements) c.text-2.ensures.same in
-    let state = c.new-trial.result.state in
-    let same : state ≡ c.in_ok-facts.facts = ap (λ (t : TrialState). t.state) c.new-trial.ensures.anew in
-    let is =
-    initial_exact text (members state) (ap members (same ∙ c.in_ok-facts.ensures) ∙ ap (λ (ss : List Statement). members (with_facts true (initial ss) nothing)) statements) in
-    let there = c.in_ok-theory.ensures in
-    subst (λ (t : Text). Stands (record { text = t; facts = members state; cycles = 0 }) [] (first_trace (members state))) (sym there)
-    (stands_first text (members state) c.requires is)
+    let round = c.in_ok-round.round.value in
+    let agenda = c.in_ok-agenda.agenda in
+    let created = c.in_ok-agenda.told.created.items in
+    let closed = c.in_ok-agenda.told.closed.items in
+    let there : c.program-2.result.now ≡ c.args.text = c.program-2.ensures ∙ ap (λ (r : RoundState). r.text) c.deref-3.ensures ∙ c.in_ok-round.ensures.text in
+    let same : members c.state.result.now ≡ round.facts = c.state.ensures ∙ ap (λ (r : RoundState). r.facts) c.deref-4.ensures in
+    let failed : c.failed_in-failed.result ≡ failed_among closed = c.failed_in-failed.ensures ∙ ap failed_among c.as_slice.ensures.value in
+    let begins = subst (λ (t : Text). BeginsWith t 100 round.facts agenda created closed) there
+    (subst (λ (fs : List Atom). BeginsWith c.program-2.result.now 100 fs agenda created closed) same c.in_ok-agenda.ensures.begins) in
+    let stands = stands_first c.args.text c.args.prefer round.facts agenda created closed c.requires c.in_ok-round.ensures.facts begins in
+    subst (λ (t : Text). Stands (engine_with t c.args.prefer round.facts 0 agenda created closed c.failed_in-failed.result) [] (first_trace round.facts)) (sym c.in_ok-round.ensures.text)
+    (subst (λ (n : ℕ). Stands (engine_with c.args.text c.args.prefer round.facts 0 agenda created closed n) [] (first_trace round.facts)) (sym failed) stands)

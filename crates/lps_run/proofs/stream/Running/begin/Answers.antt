@@ -1,9 +1,7 @@
-use Rattle.std.proofs.Common.{◌∙◌, List, [], Some, ap, sym, refl, inl}
+use Rattle.std.proofs.Common.{◌∙◌, [], Some, ap, sym, refl, inl}
 use Rattle.std.proofs.lemmas.List.{append-nil}
 use Rattle.std.proofs.lemmas.Result.{err_from_is_err_and}
-use Rattle.lps_terms.specs.declared.atom.Atom.{Atom}
 use Rattle.lps_run.specs.Judged.{ended}
-use Rattle.lps_run.specs.Reporting.{block_of}
 use Rattle.lps_run.proofs.Steps.{begun, block_printed, last_counted}
 use Rattle.lps_run.proofs.stream.Running.begin.Goals as goal
 
@@ -29,7 +27,6 @@ pub returns-clause-told : goal.returns-clause-told
 returns-clause-told g c = λ stream start source told.
     let running = c.args.self.now in
     let block = c.in_ok-block.block.items in
-    let spelled = c.in_ok-block.ensures ∙ ap (λ (fs : List Atom). block_of 0 c.none.result fs) c.facts.ensures in
-    let made = begun running stream block c.none.result c.requires.empty c.requires.stands c.none.ensures spelled in
+    let made = begun running stream block c.none.result c.requires.empty c.requires.oldest c.requires.stands c.none.ensures c.in_ok-block.ensures in
     block_printed running.engine.text running stream (ended stream) [] block c.as_slice.result.now start (g.D.Desk.printed c.args.desk.now) (g.D.Desk.printed c.print.new.desk) source
     _ _ c.print.result made refl c.as_slice.ensures.value (told ∙ ap Some (sym (append-nil start))) c.print.ensures.all c.print.ensures.front c.print.ensures.cause

@@ -22,6 +22,7 @@ loop-init g c =
     let new : Running = record { engine = old.engine; reader = c.feed.new.self } in
     record {
       text = refl;
+      run = c.requires.run;
       room =
           let lines : c.feed.new.self.lines ≡ old.reader.lines = ap (λ (r : Reader). r.lines) c.in_ok-feed.ensures.ok in
           let left : length c.feed.new.self.left ≡ length old.reader.left + length c.args.piece.now = ap (λ (r : Reader). length r.left) c.in_ok-feed.ensures.ok ∙ length-append old.reader.left c.args.piece.now in
@@ -33,6 +34,7 @@ loop-init g c =
 pub loop-preserved : goal.loop-preserved
 loop-preserved g c = record {
   text = c.take_line.ensures.text ∙ c.loop.invariant.text;
+  run = c.take_line.ensures.run;
   room = omega (arith, c.take_line.ensures.room, c.loop.invariant.room);
   told = λ stream rest start s. (c.in_ok-take_line.ensures.told stream rest start None (c.loop.invariant.told stream rest start s)).0;
   counted = c.in_ok-take_line.ensures.counted.1 ∙ c.loop.invariant.counted;

@@ -50,6 +50,7 @@ returns-then-count-eq0-clause-told g c = λ before start known s.
 pub loop-turn-preserved : goal.loop-turn-preserved
 loop-turn-preserved g c = record {
   text = c.take_next.ensures.text ∙ c.loop-turn.invariant.text;
+  run = c.take_next.ensures.run;
   room = c.in_ok-count.ensures.room;
   told = λ before start known s. c.in_ok-count.ensures.told before.left start (c.loop-turn.invariant.told before start known s);
   bytes = λ before known.
@@ -65,12 +66,13 @@ loop-turn-preserved g c = record {
 pub loop-turn-init : goal.loop-turn-init
 loop-turn-init g c = record {
   text = refl;
-  room = let none = ap (λ (r : Reader). r.lines + length r.left) c.requires in omega (arith, none);
+  run = c.requires.run;
+  room = let none = ap (λ (r : Reader). r.lines + length r.left) c.requires.empty in omega (arith, none);
   told = λ before start known s. record {
     last = before;
     known = known;
     standing = s;
-    part = subst IsLine (sym (ap (λ (r : Reader). r.left) c.requires)) (record { no_feed = refl; short = omega arith });
+    part = subst IsLine (sym (ap (λ (r : Reader). r.left) c.requires.empty)) (record { no_feed = refl; short = omega arith });
   };
   bytes = λ before known. (before, known, omega arith);
   turns = omega arith;
