@@ -11,6 +11,8 @@ mod checks;
 #[cfg(test)]
 mod faults;
 #[cfg(test)]
+mod goals;
+#[cfg(test)]
 mod refusals;
 #[cfg(test)]
 mod reports;
