@@ -8,6 +8,8 @@ pub mod Moding
 pub mod Places
 pub mod Readying
 pub mod Renumbering
+pub mod Sleeping
 pub mod Sorting
 pub mod Timing
 pub mod Waits
+pub mod OneWake

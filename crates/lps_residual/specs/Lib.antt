@@ -3,3 +3,4 @@ pub mod Numbered
 pub mod Limits
 pub mod Moments
 pub mod Proposing
+pub mod Waking

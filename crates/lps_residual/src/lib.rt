@@ -1,9 +1,10 @@
 //! What is left of a sequence, as a value: terms and times put into it, its canonical numbers, its time conditions, whether it can still
-//! come true, and what it proposes.
+//! come true, what it proposes, and what wakes it.
 //!
-//! It stands on windows of times and on the definition of nodes, and never knows of a state, of events, of bindings or of what is carried
-//! from cycle to cycle. Its theorems are that `can_come_true` says exactly whether a node waits, and that `proposal` gives exactly the group
-//! that a node proposes.
+//! It stands on windows of times and on the definition of nodes, and never knows of a state, of what happens, of bindings or of what is
+//! carried from cycle to cycle. Its theorems are that `can_come_true` says exactly whether a node waits, that `proposal` gives exactly the
+//! group that a node proposes, and that a node for which `wake_of` is asked can come true until it is due, and is met until then by
+//! nothing but an event that it awaits; equal nodes are woken by the same (`wake_law`).
 //!
 //! A node in canonical numbers is ready as far as the node was (`ready_numbered` in `proofs/Readying`), so what is known of nodes that are
 //! given stays known of those that are made of them.
@@ -16,6 +17,7 @@
 //! | `Putting`, `Numbered` | nodes with terms and times put in, and nodes in canonical numbers |
 //! | `Limits` | constraints whose times are all known |
 //! | `Proposing` | the action that is next, and the atoms of its group |
+//! | `Waking` | the event that a node awaits, and the time at which it is due |
 #![tactic(auto)]
 
 mod conditions;
@@ -27,6 +29,7 @@ mod same;
 mod seen;
 mod size;
 mod waiting;
+mod waking;
 
 pub use limits::tested;
 pub use numbered::{Numbered, in_numbers};
@@ -36,3 +39,4 @@ pub use same::are_same;
 pub use seen::{place_of, see_items, see_times};
 pub use size::MOST_SYMBOLS;
 pub use waiting::can_come_true;
+pub use waking::{Awaited, Wake, wake_law, wake_of};

@@ -219,8 +219,9 @@ fn see_expr(expr: &Expr, seen: &mut Vec<u32>) -> Result<(), AllocError>
     }
 }
 
+/// Adds the variables of a term that are new.
 #[cycle(see)]
-fn see_term(term: &Term, seen: &mut Vec<u32>) -> Result<(), AllocError>
+pub fn see_term(term: &Term, seen: &mut Vec<u32>) -> Result<(), AllocError>
     ensures { OnOk result (seen.new.items ≡ first_seen seen.old.items (term_vars term.now)) }
 {
     match term {

@@ -15,4 +15,5 @@ pub mod Entrances
 pub mod Distinct
 pub mod Written
 pub mod Starting
+pub mod Staying
 pub mod Beginnings

@@ -3,3 +3,4 @@ pub mod Carries
 pub mod Found
 pub mod Leads
 pub mod Calls
+pub mod Resting

@@ -1,0 +1,6 @@
+pub mod Orders
+pub mod Members
+mod Walks
+mod Along
+mod Events
+mod Both
