@@ -5,13 +5,17 @@ use Rattle.std.specs.declared.cmp.Ordering.{Ordering}
 use Rattle.std.specs.declared.cmp.Ordering.TheVariants.{Less, Equal, Greater}
 use Rattle.std.specs.BTreeSet.{insert_key}
 use Rattle.std.specs.FinMap.{IsAntisymmetric}
-use Rattle.std.specs.List.{AllByRecursion}
+use Rattle.std.specs.declared.result.Result.{Result}
+use Rattle.std.specs.declared.result.Result.TheVariants.{Ok, Err}
+use Rattle.std.specs.Result.{OnErr}
 use Rattle.std.specs.Ordering.{match_ordering}
 use Rattle.std.proofs.lemmas.List.Elements.{Contains-push, Contains-push_cases, Contains-append_left}
 use Rattle.lps_model.specs.Rules.{numbered}
 use Rattle.lps_model.proofs.Elements.{first_or_later, first_is_contained, later_is_contained, nothing_contained}
-use Rattle.lps_meaning.proofs.Lists.{of_each, of_element}
-use Rattle.lps_antecedents.specs.Gathered.{AreOnce, ByOne, Gains, HasExactly}
+use Rattle.lps_meaning.proofs.Numbers.{some_same}
+use Rattle.lps_antecedents.specs.declared.held.Held.{Held}
+use Rattle.lps_antecedents.specs.Lists.{AreOnce, ByOne, Gains, HasExactly}
+use Rattle.lps_antecedents.specs.Slots.{AreApart}
 
 module _ {X : Type 0} where
   here : (x y : X) (xs : List X) → x ≡ y → Contains (y ∷ xs) x
@@ -36,9 +40,6 @@ module _ {X : Type 0} where
     λ h. elim h [ inl among ↦ (g x).1 (inl among) | inr q ↦ (g x).1 (inr ((same x).1 q)) ],
   )
 
-  pub all_gained : (P : X → Type 0) (old new : List X) (Q : X → Type 0) → Gains old new Q → AllByRecursion P old → ((x : X) → Q x → P x) → AllByRecursion P new
-  all_gained P old new Q g all more = of_each P new (λ x h. elim ((g x).0 h) [ inl among ↦ of_element P old x all among | inr q ↦ more x q ])
-
   pub exactly_more : (old new : List X) (P Q R : X → Type 0) → HasExactly old P → Gains old new Q → ((x : X) → (P x ⊎ Q x) ↔ R x) → HasExactly new R
   exactly_more old new P Q R exact g all x = (
     λ h. elim ((g x).0 h) [ inl among ↦ (all x).0 (inl ((exact x).0 among)) | inr q ↦ (all x).0 (inr q) ],
@@ -48,33 +49,10 @@ module _ {X : Type 0} where
   pub exactly_none : (xs : List X) (P : X → Type 0) → xs ≡ [] → ((x : X) → P x → ⊥) → HasExactly xs P
   exactly_none xs P none never x = (λ h. absurd (nothing_contained x (subst (λ zs. Contains zs x) none h)), λ p. absurd (never x p))
 
-  -- ---- each once
-
-  at_pushed : (xs : List X) (y x : X) (i : ℕ) → slice_get (xs ++ y ∷ []) i ≡ Some x → (slice_get xs i ≡ Some x) ⊎ ((i ≡ length xs) × (y ≡ x))
-  at_pushed [] y x zero e = inr (refl, cc)
-  at_pushed [] y x (suc i) e = absurd cc
-  at_pushed (z ∷ xs) y x zero e = inl e
-  at_pushed (z ∷ xs) y x (suc i) e = elim (at_pushed xs y x i e) [ inl old ↦ inl old | inr last ↦ inr (ap suc last.0, last.1) ]
-
-  at_contains : (xs : List X) (x : X) (i : ℕ) → slice_get xs i ≡ Some x → Contains xs x
+  pub at_contains : (xs : List X) (x : X) (i : ℕ) → slice_get xs i ≡ Some x → Contains xs x
   at_contains [] x i e = absurd cc
   at_contains (y ∷ xs) x zero e = let same : y ≡ x = cc in here x y xs (sym same)
   at_contains (y ∷ xs) x (suc i) e = later_is_contained y xs x (at_contains xs x i e)
-
-  pub once_none : (xs : List X) → xs ≡ [] → AreOnce xs
-  once_none xs none = subst AreOnce (sym none) (λ i j x at_i at_j. absurd cc)
-
-  pub once_pushed : (xs : List X) (y : X) → (Contains xs y → ⊥) → AreOnce xs → AreOnce (xs ++ y ∷ [])
-  once_pushed xs y new once i j x at_i at_j = elim (at_pushed xs y x i at_i) [
-    | inl old ↦ elim (at_pushed xs y x j at_j) [
-      | inl other ↦ once i j x old other
-      | inr last ↦ absurd (new (subst (Contains xs) (sym last.1) (at_contains xs x i old)))
-    ]
-    | inr last ↦ elim (at_pushed xs y x j at_j) [
-      | inl other ↦ absurd (new (subst (Contains xs) (sym last.1) (at_contains xs x j other)))
-      | inr other ↦ last.0 ∙ sym other.0
-    ]
-  ]
 
   -- ---- a set with one more
 
@@ -138,13 +116,6 @@ module _ {X : Type 0} where
       λ p. elim ((all x).1 p) [ inl h ↦ h | inr one ↦ absurd (omega (arith, none, one.1.1)) ],
     )
 
-    -- nothing is there yet
-    pub by_all : (xs : List X) (ys : List Y) → xs ≡ [] → (x : X) → (Contains xs x ⊎ ByOne ys R x) ↔ ByOne ys R x
-    by_all xs ys none x = (
-      λ h. elim h [ inl among ↦ absurd (nothing_contained x (subst (λ zs. Contains zs x) none among)) | inr one ↦ one ],
-      λ one. inr one,
-    )
-
 -- ---- the rest of a list
 
 pub rest_from : {Y : Type 0} (ys : List Y) (i : ℕ) (y : Y) → i < length ys → y ≡ get_or ys i y → drop i ys ≡ y ∷ drop (i + 1) ys
@@ -154,9 +125,6 @@ rest_from ys i y lt at = let next : suc i ≡ i + 1 = omega arith in subst (λ n
     by [] i lt at = absurd (omega (arith, lt))
     by (z ∷ ys) zero lt at = ap (λ w. w ∷ ys) (sym at)
     by (z ∷ ys) (suc i) lt at = by ys i (omega (arith, lt)) at
-
-pub element_at : {Y : Type 0} (ys : List Y) (i : ℕ) (y : Y) → i < length ys → y ≡ get_or ys i y → Contains ys y
-element_at ys i y lt at = (i, lt, sym at)
 
 pub none_left : {Y : Type 0} (ys : List Y) (i : ℕ) → length ys ≤ i → length (drop i ys) ≡ 0
 none_left [] zero le = refl
@@ -179,3 +147,19 @@ number_within ys zero y at = absurd cc
 number_within [] (suc n) y at = absurd cc
 number_within (z ∷ ys) (suc zero) y at = (omega arith, omega arith)
 number_within (z ∷ ys) (suc (suc n)) y at = let later = number_within ys (suc n) y at in (omega arith, omega (arith, later.1))
+
+-- ---- each once, as no two are the same
+
+pub once_apart : (xs : List Held) → AreApart xs → AreOnce xs
+once_apart [] apart i j x at_i at_j = absurd cc
+once_apart (y ∷ ys) apart zero zero x at_i at_j = refl
+once_apart (y ∷ ys) apart zero (suc j) x at_i at_j = let same : y ≡ x = some_same at_i in absurd (apart.0 (subst (Contains ys) (sym same) (at_contains ys x j at_j)))
+once_apart (y ∷ ys) apart (suc i) zero x at_i at_j = let same : y ≡ x = some_same at_j in absurd (apart.0 (subst (Contains ys) (sym same) (at_contains ys x i at_i)))
+once_apart (y ∷ ys) apart (suc i) (suc j) x at_i at_j = ap suc (once_apart ys apart.1 i j x at_i at_j)
+
+-- ---- results
+
+-- what holds in any case holds on an error
+pub on_err_any : {T E : Type 0} {P : Type 0} (r : Result T E) → P → OnErr r P
+on_err_any (Ok x) p = tt
+on_err_any (Err e) p = p

@@ -1,6 +1,6 @@
 -- What one that waits comes to in a cycle, and what all that waits comes to.
 use Rattle.std.proofs.Common.{ℕ, suc, ◌≡◌, ◌∙◌, List, refl, sym, ap, subst, arith, inl}
-use Rattle.std.specs.Prelude.{◌⊎◌, ◌↔◌, Contains, Some}
+use Rattle.std.specs.Prelude.{◌↔◌, Some}
 use Rattle.lps_terms.specs.declared.atom.Atom.{Atom}
 use Rattle.lps_terms.specs.declared.text.Text.{Text}
 use Rattle.lps_model.specs.declared.trace.Trace.{Trace}
@@ -18,10 +18,8 @@ use Rattle.lps_seq.specs.declared.stepped.Stepped.{Stepped}
 use Rattle.lps_seq.specs.Calls.{IsNext}
 use Rattle.lps_seq.specs.Found.{AreGiven}
 use Rattle.lps_meeting.specs.Stages.{AreEventsOf, IsStateOf}
-use Rattle.lps_antecedents.specs.declared.gathered.Gathered.{Gathered}
 use Rattle.lps_antecedents.specs.declared.held.Held.{Held}
-use Rattle.lps_antecedents.specs.Gathered.{ByOne, HeldEndsWith, HeldGoesOnTo, IsKeyOf, IsLeftFor}
-use Rattle.lps_antecedents.specs.Waiting.{StandsFor}
+use Rattle.lps_antecedents.specs.Gathered.{HeldEndsWith, HeldGoesOnTo, IsKeyOf, IsLeftFor}
 use Rattle.lps_antecedents.proofs.Known.{carry_back, numbers_back}
 
 pub of_text : (text : Text) (n : ℕ) (rule : Rule) → numbered (rules text) n ≡ Some rule → IsOfText text (antecedent_of rule)
@@ -72,13 +70,3 @@ module _ (text : Text) (accepted : IsAccepted text) (waiting : WaitingNodesAreNo
         λ i. record { rule = ends.0 i; values = key.values; times = numbers_back key.times i; time = (ends.1 ∙ sym at) i },
       )),
     )
-
--- ---- all that waits
-
--- what is gathered, together with what those that are left give, is what all that waited give
-abbrev pub IsGathering : Text → ℕ → List Atom → List Atom → List Held → List Held → Gathered → Type 0
-IsGathering text time facts events before left g =
-    (level : List ℕ → ℕ) → AreLevels (clauses text) level → (trace : Trace) (now : ℕ) → time ≡ suc now → IsStateOf text level trace time facts → AreEventsOf trace time events →
-    StandsFor text level trace now before →
-    ((o : Held) → (Contains g.held.items o ⊎ ByOne left (HeldGoesOnTo text level trace now) o) ↔ ByOne before (HeldGoesOnTo text level trace now) o)
-    × ((key : GoalKey) → (Contains g.keys.keys key ⊎ ByOne left (HeldEndsWith text level trace now) key) ↔ ByOne before (HeldEndsWith text level trace now) key)

@@ -1,5 +1,6 @@
 -- What is gathered for a cycle, and what is added to it.
-use Rattle.std.specs.Prelude.{◌≡◌, ◌⊎◌, ◌↔◌, ◌≤◌, ℕ, zero, suc, List, [], ◌∷◌, Some, slice_get, Contains}
+pub use Rattle.lps_antecedents.specs.Lists.{AreOnce, ByOne, Gains, HasExactly}
+use Rattle.std.specs.Prelude.{◌≡◌, ◌≤◌, ℕ, zero, suc, List, [], ◌∷◌, Some}
 use Rattle.std.specs.List.{flat_map}
 use Rattle.lps_terms.specs.declared.atom.Atom.{Atom}
 use Rattle.lps_terms.specs.declared.text.Text.{Text}
@@ -14,28 +15,9 @@ use Rattle.lps_meaning.specs.declared.when.When.{When}
 use Rattle.lps_meaning.specs.declared.when.When.TheVariants.{Known, Unknown}
 use Rattle.lps_meaning.specs.Goals.{IsGoal}
 use Rattle.lps_nodes.specs.Plans.{EndsWith, GoesOnTo, IsWaiting, antecedent_entrance, key_carry}
-use Rattle.lps_meeting.specs.Stages.{AreEventsOf, IsStateOf}
+use Rattle.lps_meeting.specs.Stages.{IsStateOf}
 use Rattle.lps_antecedents.specs.declared.gathered.Gathered.{Gathered}
 use Rattle.lps_antecedents.specs.declared.held.Held.{Held}
-use Rattle.lps_antecedents.specs.Waiting.{StandsFor}
-
--- ---- lists that grow
-
--- the list has exactly what P holds of
-abbrev pub HasExactly : {X : Type 0} → List X → (X → Type 0) → Type 0
-HasExactly {X} xs P = (x : X) → Contains xs x ↔ P x
-
--- the new list has what the old one has, and what P holds of
-abbrev pub Gains : {X : Type 0} → List X → List X → (X → Type 0) → Type 0
-Gains {X} old new P = HasExactly new (λ x. Contains old x ⊎ P x)
-
--- each is there once
-abbrev pub AreOnce : {X : Type 0} → List X → Type 0
-AreOnce {X} xs = (i j : ℕ) (x : X) → slice_get xs i ≡ Some x → slice_get xs j ≡ Some x → i ≡ j
-
--- what some element of a list gives
-abbrev pub ByOne : {X Y : Type 0} → List X → (X → Y → Type 0) → Y → Type 0
-ByOne {X} xs R y = (x : X) × Contains xs x × R x y
 
 -- ---- what is added
 
@@ -71,14 +53,6 @@ module _ (text : Text) (level : List ℕ → ℕ) (trace : Trace) (now : ℕ) wh
   abbrev pub HeldEndsWith : Held → GoalKey → Type 0
   HeldEndsWith h key = (key.rule ≡ h.rule) × (key.time ≡ suc now)
       × (rule : Rule) × (numbered (rules text) h.rule ≡ Some rule) × EndsWith text level trace 1 (antecedent_entrance rule) now h.node (key_carry key)
-
--- Whatever trace what waited stands for at the time before, with this state and these events: what that goes on to is gathered, and the
--- keys that it ends with.
-abbrev pub IsGatheredAfter : Text → ℕ → List Atom → List Atom → List Held → Gathered → Type 0
-IsGatheredAfter text time facts events before g =
-    (level : List ℕ → ℕ) → AreLevels (clauses text) level → (trace : Trace) (now : ℕ) → time ≡ suc now → IsStateOf text level trace time facts → AreEventsOf trace time events →
-    StandsFor text level trace now before →
-    HasExactly g.held.items (ByOne before (HeldGoesOnTo text level trace now)) × HasExactly g.keys.keys (ByOne before (HeldEndsWith text level trace now))
 
 -- Whatever trace has this initial state: what waits at 0 for the first rules, so many of them, is gathered, and the keys of their goals.
 abbrev pub IsGatheredAtFirst : Text → List Atom → ℕ → Gathered → Type 0

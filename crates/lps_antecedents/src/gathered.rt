@@ -1,19 +1,18 @@
 //! What is gathered for a cycle.
-ghost use Rattle.std.specs.Prelude.{◌≡◌, ◌↔◌, [], IfOk, IsTrue, OnOk, Contains};
+ghost use Rattle.std.specs.Prelude.{◌≡◌, [], IfOk, OnOk};
 ghost use Rattle.std.specs.List.Sorted.{IsStrictlySortedBy};
 ghost use Rattle.lps_meaning.specs.Cycles.{key_cmp};
-ghost use Rattle.lps_antecedents.specs.Gathered.{Gains, IsKeyOf, IsLeftFor, AreOnce, key_of, numbers_in};
+ghost use Rattle.lps_antecedents.specs.Gathered.{Gains, IsKeyOf, IsLeftFor, key_of, numbers_in};
 
 use crate::held::Held;
 use crate::keyed::Keyed;
 use lps_meaning::{Carry, GoalKey, Node, When};
-use lps_residual::are_same;
 use lps_seq::Stepped;
 use sqlite_items::Items;
 use std::alloc::{AllocError, Global};
 use std::collections::BTreeSet;
 
-/// What waits, each once, and the keys of the antecedents that come true, in order.
+/// What waits from now on, and the keys of the antecedents that come true, in order.
 #[derive(Drop)]
 pub(crate) struct Gathered {
     held: Vec<Held>,
@@ -40,7 +39,6 @@ impl Gathered {
         stepped: Stepped,
     ) -> Result<(), AllocError>
         ensures held { OnOk result (Gains self.old.held.items self.new.held.items (IsLeftFor rule stepped.nodes.items)) }
-        ensures once { OnOk result (AreOnce self.old.held.items → AreOnce self.new.held.items) }
         ensures keys { OnOk result (Gains self.old.keys.keys self.new.keys.keys (IsKeyOf rule time stepped.ended.items)) }
     {
         let Stepped { nodes, ended, .. } = stepped;
@@ -61,41 +59,12 @@ impl Gathered {
 }
 
 fn add_nodes(rule: u32, nodes: Vec<Node>, held: &mut Vec<Held>) -> Result<(), AllocError>
-    ensures all { OnOk result (Gains held.old.items held.new.items (IsLeftFor rule nodes.items)) }
-    ensures once { OnOk result (AreOnce held.old.items → AreOnce held.new.items) }
+    ensures { OnOk result (Gains held.old.items held.new.items (IsLeftFor rule nodes.items)) }
 {
     for node in nodes {
-        add_node(Held { rule, node }, held)?;
+        held.push(Held { rule, node })?;
     }
     Ok(())
-}
-
-/// Adds one that waits where it is new.
-fn add_node(new: Held, held: &mut Vec<Held>) -> Result<(), AllocError>
-    ensures one { OnOk result (Gains held.old.items held.new.items (λ h. h ≡ new)) }
-    ensures once { OnOk result (AreOnce held.old.items → AreOnce held.new.items) }
-{
-    if !has(held.as_slice(), &new) {
-        held.push(new)?;
-    }
-    Ok(())
-}
-
-fn has(held: &[Held], one: &Held) -> bool
-    ensures { IsTrue result ↔ Contains held.now one.now }
-{
-    for other in held {
-        if is_same(one, other) {
-            return true;
-        }
-    }
-    false
-}
-
-fn is_same(one: &Held, other: &Held) -> bool
-    ensures { IsTrue result ↔ (one.now ≡ other.now) }
-{
-    one.rule == other.rule && are_same(&one.node, &other.node)
 }
 
 fn add_keys(

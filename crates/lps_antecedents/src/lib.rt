@@ -6,25 +6,33 @@
 //! is exactly the nodes that are left of the antecedents, each once; and that `start` and `advance` give exactly the keys of their cycle,
 //! in order (clause `stands` of each). `undo` gives back what waited before the last `advance`, and takes no memory.
 //!
-//! Each node is looked at in each cycle. A table from the event that a node's next step awaits to the nodes that await it, and from a
-//! cycle to those that are let go in it, would spare those that the cycle does not touch, behind the same clauses.
+//! What waits lies in buckets by what wakes it, and a cycle looks at the buckets that it touches alone: what it does not touch goes on to
+//! itself, by the law of nodes that rest. An equal node lies in the same bucket, so that it is looked for there alone. Each bucket says
+//! of those in it whether they wait now and whether they waited before; the buckets that a cycle changed are settled before the next.
 //!
 //! Contracts cite these definitions:
 //!
 //! | file of `specs/` | defines |
 //! |---|---|
 //! | `Waiting` | what waits, and what it stands for |
+//! | `Slots` | what lies in a bucket |
+//! | `Buckets` | what waits in buckets by what wakes it, and what holds of them |
+//! | `Advancing` | what those that a cycle touches come to in it |
 //! | `Gathered` | what is gathered for a cycle, and what is added to it |
+//! | `Lists` | what lists have, and lists that grow |
 //! | `Laws` | the law that what waits stands for a trace by what happens up to its time alone (`waiting_law`) |
 #![tactic(auto)]
 
 mod advancing;
+mod buckets;
 mod gathered;
 mod held;
 mod keyed;
 mod laws;
 mod rules;
+mod slot;
 mod starting;
+mod symbols;
 mod waiting;
 
 pub use held::Held;

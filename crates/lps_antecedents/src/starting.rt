@@ -5,8 +5,9 @@ ghost use Rattle.lps_facts.specs.Facts.{members};
 ghost use Rattle.lps_model.specs.Rules.{rules};
 ghost use Rattle.lps_solve.specs.Met.{AreGround};
 ghost use Rattle.lps_unify.specs.Bindings.{count_of};
-ghost use Rattle.lps_antecedents.specs.Gathered.{AreOnce, IsGatheredAtFirst};
-ghost use Rattle.lps_antecedents.specs.Waiting.{AreReady};
+ghost use Rattle.lps_residual.specs.Moments.{IsReady};
+ghost use Rattle.lps_antecedents.specs.declared.held.Held.{Held as One};
+ghost use Rattle.lps_antecedents.specs.Gathered.{IsGatheredAtFirst};
 
 use crate::advancing::DEPTH;
 use crate::gathered::Gathered;
@@ -28,8 +29,7 @@ pub(crate) fn started(
     requires ground { (a : Fluent) → Contains (members facts.now) a → AreGround a.args }
     requires none { count_of bindings.now ≡ 0 }
     ensures gathered { IfOk result (λ g. IsGatheredAtFirst program.now (members facts.now) (length (rules program.now)) g) }
-    ensures once { IfOk result (λ g. AreOnce g.held.items) }
-    ensures ready { IfOk result (λ g. AreReady program.now g.held.items) }
+    ensures ready { IfOk result (λ g. (h : One) → Contains g.held.items h → IsReady program.now h.node) }
     ensures same { bindings.new ≡ bindings.old }
 {
     program.lawful();

@@ -1,65 +1,90 @@
-use Rattle.std.proofs.Common.{◌≡◌, ◌∙◌, arith, length, refl, ◌+◌, ◌⊎◌, ◌↔◌, List, ◌∷◌, drop, Contains, subst, sym, ap}
-use Rattle.lps_facts.specs.Facts.{members}
-use Rattle.lps_residual.specs.Moments.{IsReady}
-use Rattle.lps_meaning.proofs.Lists.{of_element}
-use Rattle.lps_antecedents.specs.declared.held.Held.{Held}
-use Rattle.lps_antecedents.specs.Gathered.{ByOne, HeldEndsWith, HeldGoesOnTo, IsKeyOf, IsLeftFor}
-use Rattle.lps_antecedents.specs.Waiting.{AreReady}
-use Rattle.lps_antecedents.proofs.Lists.{all_gained, by_all, by_none, by_one_more, element_at, gains_as, none_left, once_none, rest_from}
-use Rattle.lps_antecedents.proofs.Stepping.{ends, goes_on}
+use Rattle.std.proofs.Common.{◌≡◌, ◌∙◌, ◌+◌, ◌++◌, ◌∷◌, ◌⊎◌, List, [], arith, drop, take, ap, subst, sym, refl, inl, inr}
+use Rattle.std.specs.Prelude.{Contains}
+use Rattle.std.proofs.lemmas.List.{drop_all, take_more}
+use Rattle.lps_model.proofs.Elements.{nothing_contained}
+use Rattle.lps_residual.specs.declared.waking.Wake.{Wake}
+use Rattle.lps_antecedents.specs.Advancing.{BySome, LiesInSome}
+use Rattle.lps_antecedents.specs.Buckets.{AreReadyIn, ChangesOnly, LiesIn, kept, slots_of, waiting}
+use Rattle.lps_antecedents.specs.Gathered.{HeldEndsWith, HeldGoesOnTo}
+use Rattle.lps_antecedents.proofs.Gaining.{at_place, not_before, taken}
+use Rattle.lps_antecedents.proofs.Lists.{at_contains, rest_from}
+use Rattle.lps_antecedents.proofs.Lying.{changes_more, changes_then, nothing_changes, only_one, same_kept}
+use Rattle.lps_antecedents.proofs.Steps.{some_had, some_more}
 use Rattle.lps_antecedents.proofs.advancing.advanced.Goals as goal
 
-pub loop-one-init : goal.loop-one-init
-loop-one-init c = record {
-  same = refl;
-  once = once_none c.new-gathered.result.held.items c.new-gathered.ensures.held;
-  ready = subst (AreReady c.args.program.now) (sym c.new-gathered.ensures.held) tt;
-  gathering = λ level levels trace now at state happen stands. (
-    by_all (HeldGoesOnTo c.args.program.now level trace now) c.new-gathered.result.held.items c.args.held.now c.new-gathered.ensures.held,
-    by_all (HeldEndsWith c.args.program.now level trace now) c.new-gathered.result.keys.keys c.args.held.now c.new-gathered.ensures.keys,
-  );
-}
-
-pub progress-requires-clause-node : goal.progress-requires-clause-node
-progress-requires-clause-node c =
-    let there = element_at c.args.held.now c.loop-one.one-index c.one-item.result c.loop-one-test.true c.one-item.is in
-    of_element (λ (h : Held). IsReady c.args.program.now h.node) c.args.held.now c.one-item.result c.requires.ready there
-
-pub loop-one-preserved : goal.loop-one-preserved
-loop-one-preserved c =
-    let one : Held = c.one-item.result in
-    let there : Contains c.args.held.now one = element_at c.args.held.now c.loop-one.one-index one c.loop-one-test.true c.one-item.is in
-    let rest : drop c.loop-one.one-index c.args.held.now ≡ one ∷ drop (c.loop-one.one-index + 1) c.args.held.now = rest_from c.args.held.now c.loop-one.one-index one c.loop-one-test.true c.one-item.is in
-    let added = c.in_ok-add.ensures in
+pub loop-wake-init : goal.loop-wake-init
+loop-wake-init c =
+    let old = slots_of c.args.by_wake.now in
     record {
-      same = c.in_ok-stepped.ensures.same ∙ c.loop-one.invariant.same;
-      once = added.once c.loop-one.invariant.once;
-      ready = all_gained (λ (h : Held). IsReady c.args.program.now h.node) c.loop-one.gathered.held.items c.add.new.self.held.items (IsLeftFor one.rule c.in_ok-stepped.stepped.nodes.items) added.held c.loop-one.invariant.ready
-          (λ h left. subst (IsReady c.args.program.now) (sym (ap (λ (x : Held). x.node) left.2)) (of_element (IsReady c.args.program.now) c.in_ok-stepped.stepped.nodes.items left.0 c.in_ok-stepped.ensures.nodes left.1));
-      gathering = λ level levels trace now at state happen stands.
-          let so_far = c.loop-one.invariant.gathering level levels trace now at state happen stands in
-          let waits = (stands.exact one).0 there in
+      same = refl;
+      changes = nothing_changes [] old c.requires.ordered;
+      ready = λ h there. absurd (nothing_contained h (subst (λ hs. Contains hs h) c.new-gathered.ensures.held there));
+      gathered = λ level levels trace now at state happen waits. (
+        (λ o. (
+          λ sides. elim sides [ inl had ↦ elim had [ inl none ↦ absurd (nothing_contained o (subst (λ hs. Contains hs o) c.new-gathered.ensures.held none)) | inr there ↦ inl there ] | inr on ↦ inr on ],
+          λ sides. elim sides [ inl there ↦ inl (inr there) | inr on ↦ inr on ],
+        )),
+        (λ key. (
+          λ sides. elim sides [ inl none ↦ absurd (nothing_contained key (subst (λ ks. Contains ks key) c.new-gathered.ensures.keys none)) | inr end ↦ end ],
+          λ end. inr end,
+        )),
+      );
+    }
+
+pub step_bucket-requires-clause-ready : goal.step_bucket-requires-clause-ready
+step_bucket-requires-clause-ready c =
+    subst (AreReadyIn c.args.program.now) (sym (same_kept (slots_of c.args.by_wake.now) (slots_of c.loop-wake.by_wake) c.loop-wake.invariant.changes.before)) c.requires.ready
+
+pub returns-in_err-step_bucket-clause-before : goal.returns-in_err-step_bucket-clause-before
+returns-in_err-step_bucket-clause-before c =
+    let wakes = c.args.wakes.now in
+    let i = c.loop-wake.wake-index in
+    let wake : Wake = c.wake-item.result in
+    let old = slots_of c.args.by_wake.now in
+    let new = slots_of c.step_bucket.new.by_wake in
+    let more : take (i + 1) wakes ≡ take i wakes ++ wake ∷ [] = take_more wakes i wake c.loop-wake-test.true ∙ ap (λ (w : Wake). take i wakes ++ w ∷ []) (sym c.wake-item.is) in
+    changes_more (take (i + 1) wakes) wakes old new (taken wakes (i + 1))
+    (subst (λ (ws : List Wake). ChangesOnly ws old new) (sym more) (changes_then (take i wakes) (wake ∷ []) old (slots_of c.loop-wake.by_wake) new c.loop-wake.invariant.changes c.step_bucket.ensures.before))
+
+pub loop-wake-preserved : goal.loop-wake-preserved
+loop-wake-preserved c =
+    let wakes = c.args.wakes.now in
+    let i = c.loop-wake.wake-index in
+    let wake : Wake = c.wake-item.result in
+    let old = slots_of c.args.by_wake.now in
+    let middle = slots_of c.loop-wake.by_wake in
+    let new = slots_of c.step_bucket.new.by_wake in
+    let changes = c.loop-wake.invariant.changes in
+    let more : take (i + 1) wakes ≡ take i wakes ++ wake ∷ [] = take_more wakes i wake c.loop-wake-test.true ∙ ap (λ (w : Wake). take i wakes ++ w ∷ []) (sym c.wake-item.is) in
+    let rest : drop i wakes ≡ wake ∷ drop (i + 1) wakes = rest_from wakes i wake c.loop-wake-test.true c.wake-item.is in
+    let among : Contains wakes wake = at_contains wakes wake i (at_place wakes i wake c.loop-wake-test.true c.wake-item.is) in
+    let same = same_kept old middle changes.before in
+    record {
+      same = c.in_ok-step_bucket.ensures.same ∙ c.loop-wake.invariant.same;
+      changes = subst (λ (ws : List Wake). ChangesOnly ws old new) (sym more) (changes_then (take i wakes) (wake ∷ []) old middle new changes c.in_ok-step_bucket.ensures.before);
+      ready = c.in_ok-step_bucket.ensures.ready c.loop-wake.invariant.ready;
+      gathered = λ level levels trace now at state happen waits.
+          let so_far = c.loop-wake.invariant.gathered level levels trace now at state happen waits in
           let goes = HeldGoesOnTo c.args.program.now level trace now in
-          let end = HeldEndsWith c.args.program.now level trace now in (
-            by_one_more goes c.loop-one.gathered.held.items c.add.new.self.held.items one (drop (c.loop-one.one-index + 1) c.args.held.now) (λ o. ByOne c.args.held.now goes o)
-                (gains_as c.loop-one.gathered.held.items c.add.new.self.held.items (IsLeftFor one.rule c.in_ok-stepped.stepped.nodes.items) (goes one)
-                (goes_on c.args.program.now c.lawful.ensures.accepted c.progress_law.ensures.waiting_nodes level trace now levels c.args.time at (members c.args.facts.now) c.args.events.now state happen one c.in_ok-stepped.stepped c.in_ok-stepped.ensures.next waits)
-                added.held)
-                (λ o. subst (λ (left : List Held). (Contains c.loop-one.gathered.held.items o ⊎ ByOne left goes o) ↔ ByOne c.args.held.now goes o) rest (so_far.0 o)),
-            by_one_more end c.loop-one.gathered.keys.keys c.add.new.self.keys.keys one (drop (c.loop-one.one-index + 1) c.args.held.now) (λ key. ByOne c.args.held.now end key)
-                (gains_as c.loop-one.gathered.keys.keys c.add.new.self.keys.keys (IsKeyOf one.rule c.args.time c.in_ok-stepped.stepped.ended.items) (end one)
-                (ends c.args.program.now c.lawful.ensures.accepted c.progress_law.ensures.waiting_nodes level trace now levels c.args.time at (members c.args.facts.now) c.args.events.now state happen one c.in_ok-stepped.stepped c.in_ok-stepped.ensures.next waits)
-                added.keys)
-                (λ key. subst (λ (left : List Held). (Contains c.loop-one.gathered.keys.keys key ⊎ ByOne left end key) ↔ ByOne c.args.held.now end key) rest (so_far.1 key)),
+          let ends = HeldEndsWith c.args.program.now level trace now in
+          let step = c.in_ok-step_bucket.ensures.gathered (λ other slot is lies. elim (changes.new_lie other slot lies) [
+            | inl early ↦ absurd (not_before wakes i wake c.requires.once c.loop-wake-test.true c.wake-item.is (subst (Contains (take i wakes)) (only_one wake other is) early))
+            | inr lay ↦ c.requires.off other slot (subst (Contains wakes) (sym (only_one wake other is)) among) lay
+          ]) level levels trace now at state happen (λ h lies. waits h (wake, among, subst (λ bs. LiesIn bs wake h) same lies)) in (
+            some_more (kept old) (kept middle) same goes wake (drop i wakes) (drop (i + 1) wakes) rest (λ o. Contains c.loop-wake.gathered.held.items o ⊎ Contains (waiting middle) o)
+                (λ o. Contains c.step_bucket.new.gathered.held.items o ⊎ Contains (waiting new) o) (λ o. Contains (waiting old) o ⊎ BySome (LiesInSome wakes (kept old)) goes o) step.0 so_far.0,
+            some_more (kept old) (kept middle) same ends wake (drop i wakes) (drop (i + 1) wakes) rest (Contains c.loop-wake.gathered.keys.keys) (Contains c.step_bucket.new.gathered.keys.keys)
+                (λ key. BySome (LiesInSome wakes (kept old)) ends key) step.1 so_far.1,
           );
     }
 
 pub returns-clause-gathered : goal.returns-clause-gathered
-returns-clause-gathered c = λ level levels trace now at state happen stands.
-    let all = c.loop-one.invariant.gathering level levels trace now at state happen stands in
-    let none : length (drop c.loop-one.one-index c.args.held.now) ≡ 0 = none_left c.args.held.now c.loop-one.one-index (omega arith) in (
-      by_none (HeldGoesOnTo c.args.program.now level trace now) c.loop-one.gathered.held.items (drop c.loop-one.one-index c.args.held.now)
-          (λ o. ByOne c.args.held.now (HeldGoesOnTo c.args.program.now level trace now) o) none all.0,
-      by_none (HeldEndsWith c.args.program.now level trace now) c.loop-one.gathered.keys.keys (drop c.loop-one.one-index c.args.held.now)
-          (λ key. ByOne c.args.held.now (HeldEndsWith c.args.program.now level trace now) key) none all.1,
+returns-clause-gathered c = λ level levels trace now at state happen waits.
+    let all = c.loop-wake.invariant.gathered level levels trace now at state happen waits in
+    let old = slots_of c.args.by_wake.now in
+    let none : drop c.loop-wake.wake-index c.args.wakes.now ≡ [] = drop_all c.loop-wake.wake-index c.args.wakes.now (omega arith) in (
+      some_had (kept old) (HeldGoesOnTo c.args.program.now level trace now) (drop c.loop-wake.wake-index c.args.wakes.now) none (λ o. Contains c.loop-wake.gathered.held.items o ⊎ Contains (waiting (slots_of c.loop-wake.by_wake)) o)
+          (λ o. Contains (waiting old) o ⊎ BySome (LiesInSome c.args.wakes.now (kept old)) (HeldGoesOnTo c.args.program.now level trace now) o) all.0,
+      some_had (kept old) (HeldEndsWith c.args.program.now level trace now) (drop c.loop-wake.wake-index c.args.wakes.now) none (Contains c.loop-wake.gathered.keys.keys)
+          (λ key. BySome (LiesInSome c.args.wakes.now (kept old)) (HeldEndsWith c.args.program.now level trace now) key) all.1,
     )

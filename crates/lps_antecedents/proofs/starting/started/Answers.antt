@@ -1,4 +1,6 @@
-use Rattle.std.proofs.Common.{◌≡◌, ◌∙◌, ◌+◌, ◌<◌, ◌≤◌, length, refl, subst, sym, ap, arith}
+use Rattle.std.proofs.Common.{◌≡◌, ◌∙◌, ◌+◌, ◌<◌, ◌≤◌, length, refl, subst, sym, ap, arith, inl, inr}
+use Rattle.std.specs.Prelude.{Contains}
+use Rattle.lps_model.proofs.Elements.{nothing_contained}
 use Rattle.lps_terms.specs.declared.text.Text.{Text}
 use Rattle.lps_model.specs.Rules.{rules}
 use Rattle.lps_facts.specs.Facts.{members}
@@ -8,16 +10,14 @@ use Rattle.lps_meaning.proofs.Lists.{of_element}
 use Rattle.lps_nodes.specs.Plans.{IsWaiting}
 use Rattle.lps_antecedents.specs.declared.held.Held.{Held}
 use Rattle.lps_antecedents.specs.Gathered.{IsGatheredAtFirst, IsKeyOf, IsLeftFor}
-use Rattle.lps_antecedents.specs.Waiting.{AreReady}
-use Rattle.lps_antecedents.proofs.Lists.{all_gained, exactly_more, exactly_none, once_none}
+use Rattle.lps_antecedents.proofs.Lists.{exactly_more, exactly_none}
 use Rattle.lps_antecedents.proofs.Entering.{is_start, keys_more, none_first, waits_more}
 use Rattle.lps_antecedents.proofs.starting.started.Goals as goal
 
 pub loop-before-init : goal.loop-before-init
 loop-before-init c = record {
   same = refl;
-  once = once_none c.new-gathered.result.held.items c.new-gathered.ensures.held;
-  ready = subst (AreReady c.args.program.now) (sym c.new-gathered.ensures.held) tt;
+  ready = λ h there. absurd (nothing_contained h (subst (λ hs. Contains hs h) c.new-gathered.ensures.held there));
   gathered = λ level levels trace state. (
     exactly_none c.new-gathered.result.held.items (λ h. (h.rule ≤ 0) × IsWaiting c.args.program.now level trace 0 h.rule h.node) c.new-gathered.ensures.held
         (λ h waits. none_first c.args.program.now h.rule waits.1.rule waits.0 waits.1.of_text),
@@ -39,9 +39,10 @@ loop-before-preserved c =
     let added = c.in_ok-add.ensures in
     record {
       same = c.in_ok-stepped.ensures.same ∙ c.loop-before.invariant.same;
-      once = added.once c.loop-before.invariant.once;
-      ready = all_gained (λ (h : Held). IsReady c.args.program.now h.node) c.loop-before.gathered.held.items c.add.new.self.held.items (IsLeftFor next c.in_ok-stepped.stepped.nodes.items) added.held c.loop-before.invariant.ready
-          (λ h left. subst (IsReady c.args.program.now) (sym (ap (λ (x : Held). x.node) left.2)) (of_element (IsReady c.args.program.now) c.in_ok-stepped.stepped.nodes.items left.0 c.in_ok-stepped.ensures.nodes left.1));
+      ready = λ h there. elim ((added.held h).0 there) [
+        | inl lay ↦ c.loop-before.invariant.ready h lay
+        | inr left ↦ subst (IsReady c.args.program.now) (sym (ap (λ (x : Held). x.node) left.2)) (of_element (IsReady c.args.program.now) c.in_ok-stepped.stepped.nodes.items left.0 c.in_ok-stepped.ensures.nodes left.1)
+      ];
       gathered = λ level levels trace state.
           let so_far = c.loop-before.invariant.gathered level levels trace state in (
             exactly_more c.loop-before.gathered.held.items c.add.new.self.held.items (λ h. (h.rule ≤ c.loop-before.before) × IsWaiting c.args.program.now level trace 0 h.rule h.node) (IsLeftFor next c.in_ok-stepped.stepped.nodes.items)
