@@ -1,7 +1,7 @@
 -- Closing goals: what is left stands for the trace, and what is closed is what is closed in the cycle.
 use Rattle.std.proofs.Common.{ℕ, suc, ◌≡◌, ◌≤◌, ◌⊎◌, ◌∙◌, Bool, true, false, cond, List, [], ◌∷◌, ◌++◌, length, refl, sym, ap, subst, arith, inl, inr}
-use Rattle.std.specs.Prelude.{Contains, Option, Some, None}
-use Rattle.std.specs.List.{filter, filter_map}
+use Rattle.std.specs.Prelude.{◌↔◌, Contains, Option, Some, None}
+use Rattle.std.specs.List.{filter}
 use Rattle.std.proofs.lemmas.List.Kept.{IsStrictlySortedBy-filter}
 use Rattle.std.specs.List.Sorted.{IsStrictlySortedBy}
 use Rattle.std.specs.Ordering.{nat_cmp, on}
@@ -26,7 +26,7 @@ use Rattle.lps_goaltrees.specs.declared.goal.Goal.{Goal}
 use Rattle.lps_goaltrees.specs.Followed.{AreCallFree, Closes, IsFollowed, Pursues, StandsAt}
 use Rattle.lps_goaltrees.specs.Pursued.{Pursuit, closed_as, closed_without, closing_of, with_number}
 use Rattle.lps_goaltrees.proofs.GoalNodes.{live_node, no_cut_met}
-use Rattle.lps_goaltrees.proofs.Lists.{of_chosen, of_filtered, rising_chosen, to_chosen, to_filtered}
+use Rattle.lps_goaltrees.proofs.Lists.{of_filtered, to_filtered}
 
 some_none : {A : Type 0} {x : A} → Some x ≡ None → ⊥
 some_none e = cc
@@ -63,13 +63,13 @@ module _ (text : Text) (free : AreCallFree text) (level : List ℕ → ℕ) (tra
 
 -- ---- tests
 
-pending_is : (status : Option Closed) → is_pending status ≡ true → status ≡ None
+pub pending_is : (status : Option Closed) → is_pending status ≡ true → status ≡ None
 pending_is None is = refl
 pending_is (Some c.Solved) is = absurd cc
 pending_is (Some c.Failed) is = absurd cc
 pending_is (Some c.Cut) is = absurd cc
 
-closing_is : (number n : GoalId) (status : Option Closed) (how : Closed) → with_number number status ≡ Some (n, how) → (number ≡ n) × (status ≡ Some how)
+pub closing_is : (number n : GoalId) (status : Option Closed) (how : Closed) → with_number number status ≡ Some (n, how) → (number ≡ n) × (status ≡ Some how)
 closing_is number n None how e = absurd (some_none (sym e))
 closing_is number n (Some other) how e = let same : (number, other) ≡ (n, how) = some_same e in (ap (λ p. p.0) same, ap (λ p. Some p.1) same)
   where
@@ -154,11 +154,13 @@ module _ (stay : StatusStays IsAccepted) (text : Text) (accepted : IsAccepted te
       same : (i j n : ℕ) → n ≡ suc i → n ≡ suc j → i ≡ j
       same i j n one two = omega (arith, one, two)
 
-  pub closed_in : AreClosedIn text level depth trace keys now (filter_map closing_of old.goals)
-  closed_in = record {
-    sorted = rising_chosen closing_of (λ (g : Goal). g.goal.0) (λ p. p.0.0) (λ g p is. let m = closing_is g.goal p.0 (closed_as g) p.1 is in sym (ap (λ n. n.0) m.0)) old.goals was.kept.rising;
+  -- these are the goals that are told to be closed, by rising number
+  pub closed_in : (closed : List (GoalId × Closed)) → IsStrictlySortedBy (on (λ (p : GoalId × Closed). p.0.0) nat_cmp) closed →
+      ((p : GoalId × Closed) → Contains closed p ↔ ((goal : Goal) × Contains old.goals goal × (closing_of goal ≡ Some p))) → AreClosedIn text level depth trace keys now closed
+  closed_in closed sorted exact = record {
+    sorted = sorted;
     exact = λ n how. (
-      λ h. let m = of_chosen closing_of old.goals (record { 0 = n }, how) h in
+      λ h. let m = (exact (record { 0 = n }, how)).0 h in
           let is = closing_is m.0.goal (record { 0 = n }) (closed_as m.0) how m.2 in
           record {
             key = m.0.key;
@@ -167,9 +169,13 @@ module _ (stay : StatusStays IsAccepted) (text : Text) (accepted : IsAccepted te
             before = was.open_until m.0 m.1;
           },
       λ h. elim (was.others n h.key h.goal) [
-        | inl m ↦ to_chosen closing_of old.goals m.0 (record { 0 = n }, how) m.1 (closing n how m.0 m.2
-            (told text free level trace depth now m.0 (was.kept.followed m.0 m.1) (Some how)
-            (subst (λ (k : GoalKey). IsClosed text level trace depth k now how) (sym (same_key m.0 m.1 n h.key m.2 h.goal)) h.closed)))
+        | inl m ↦ (exact (record { 0 = n }, how)).1 (
+          m.0,
+          m.1,
+          closing n how m.0 m.2
+              (told text free level trace depth now m.0 (was.kept.followed m.0 m.1) (Some how)
+              (subst (λ (k : GoalKey). IsClosed text level trace depth k now how) (sym (same_key m.0 m.1 n h.key m.2 h.goal)) h.closed)),
+        )
         | inr closed ↦ absurd (not_before h.key closed.0 closed.1 closed.2 closed.3 closed.4 h.before)
       ],
     );
@@ -179,8 +185,9 @@ module _ (stay : StatusStays IsAccepted) (text : Text) (accepted : IsAccepted te
       closing n how goal number is = ap (with_number goal.goal) is ∙ ap (λ k. Some (record { 0 = k }, how)) number
 
 pub closes : StatusStays IsAccepted → (old new : Pursuit) (closed : List (GoalId × Closed)) → new.goals ≡ filter (λ goal. is_pending (closed_as goal)) old.goals → new.next ≡ old.next →
-    closed ≡ filter_map closing_of old.goals → Closes old new closed
-closes stay old new closed left next are text accepted free level trace depth now upto keys goals was = (
+    IsStrictlySortedBy (on (λ (p : GoalId × Closed). p.0.0) nat_cmp) closed → ((p : GoalId × Closed) → Contains closed p ↔ ((goal : Goal) × Contains old.goals goal × (closing_of goal ≡ Some p))) →
+    Closes old new closed
+closes stay old new closed left next sorted exact text accepted free level trace depth now upto keys goals was = (
   stands stay text accepted free level trace depth now upto keys goals old was new left next,
-  subst (AreClosedIn text level depth trace keys now) (sym are) (closed_in stay text accepted free level trace depth now upto keys goals old was),
+  closed_in stay text accepted free level trace depth now upto keys goals old was closed sorted exact,
 )

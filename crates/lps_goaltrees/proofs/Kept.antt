@@ -1,5 +1,5 @@
 -- What is kept of a goal is right at its own time, and in each cycle after it.
-use Rattle.std.proofs.Common.{ℕ, suc, ◌≡◌, ◌≤◌, ◌<◌, ◌⊎◌, false, List, [], length, refl, sym, subst, arith, inl, inr, ◌∙◌}
+use Rattle.std.proofs.Common.{ℕ, suc, ◌≡◌, ◌≤◌, ◌<◌, ◌⊎◌, true, false, List, [], length, refl, sym, subst, arith, inl, inr, ◌∙◌}
 use Rattle.std.specs.Prelude.{◌↔◌, IsTrue, Contains, Some}
 use Rattle.lps_terms.specs.declared.text.Text.{Text}
 use Rattle.lps_model.specs.declared.trace.Trace.{Trace}
@@ -121,31 +121,47 @@ module _ (text : Text) (level : List ℕ → ℕ) (trace : Trace) (depth : ℕ) 
       ),
     )
 
-    pub is_advanced : IsFollowed text level trace depth now goal → next.key ≡ goal.key → (old new : Found) → old.nodes.items ≡ [] → old.solved ≡ goal.solved →
-        next.nodes ≡ new.nodes.items → next.solved ≡ new.solved →
-        Grows old new (λ other. (node : Node) × Contains goal.nodes node × IsNextNode text level trace depth goal.key now node other)
-        ((node : Node) × Contains goal.nodes node × EndsNext text level trace depth goal.key now node) →
-        IsFollowed text level trace depth (suc now) next
-    is_advanced was same old new none before nodes solved grows = record {
-      nodes = subst (λ (k : GoalKey). IsListOf (IsGoalNode text level trace depth k (suc now)) next.nodes) (sym same)
-          (subst (IsListOf (IsGoalNode text level trace depth key (suc now))) (sym nodes) (record {
-            once = grows.once (none_twice old.nodes.items none);
-            exact = λ o. let among = from_nothing old.nodes.items new.nodes.items none grows.nodes o in (
-              λ h. let m = among.0 h in (next_node o).1 (m.0, (was.nodes.exact m.0).0 m.1, m.2),
-              λ h. let m = (next_node o).0 h in among.1 (m.0, (was.nodes.exact m.0).1 m.1, m.2),
-            );
-          }));
-      solved = λ is. subst (λ (k : GoalKey). IsFulfilledWithin text level trace depth k (suc now)) (sym same) (elim (grows.solved (sym solved ∙ is)) [
-        | inl held ↦ solved_later text level trace depth key now (suc now) (one_later now) (was.solved (sym before ∙ held))
+    -- something ends of what was left
+    abbrev AnyEnds : Type 0
+    AnyEnds = (node : Node) × Contains goal.nodes node × EndsNext text level trace depth key now node
+
+    pub is_followed_next : IsFollowed text level trace depth now goal → next.key ≡ goal.key → AreOnce next.nodes →
+        ((o : Node) → Contains next.nodes o ↔ ((node : Node) × Contains goal.nodes node × IsNextNode text level trace depth key now node o)) →
+        (next.solved ≡ true → (goal.solved ≡ true) ⊎ AnyEnds) → (next.solved ≡ false → (goal.solved ≡ false) × (AnyEnds → ⊥)) → IsFollowed text level trace depth (suc now) next
+    is_followed_next was same once among solved unsolved = record {
+      nodes = subst (λ (k : GoalKey). IsListOf (IsGoalNode text level trace depth k (suc now)) next.nodes) (sym same) (record {
+        once = once;
+        exact = λ o. (
+          λ h. let m = (among o).0 h in (next_node o).1 (m.0, (was.nodes.exact m.0).0 m.1, m.2),
+          λ h. let m = (next_node o).0 h in (among o).1 (m.0, (was.nodes.exact m.0).1 m.1, m.2),
+        );
+      });
+      solved = λ is. subst (λ (k : GoalKey). IsFulfilledWithin text level trace depth k (suc now)) (sym same) (elim (solved is) [
+        | inl held ↦ solved_later text level trace depth key now (suc now) (one_later now) (was.solved held)
         | inr m ↦ (solved_next text level trace depth key now after).1 (inr (next_end.1 (m.0, (was.nodes.exact m.0).0 m.1, m.2)))
       ]);
       unsolved = λ is h.
-          let u = grows.unsolved (sym solved ∙ is) in
+          let u = unsolved is in
           elim ((solved_next text level trace depth key now after).0 (subst (λ (k : GoalKey). IsFulfilledWithin text level trace depth k (suc now)) same h)) [
-            | inl held ↦ was.unsolved (sym before ∙ u.0) held
+            | inl held ↦ was.unsolved u.0 held
             | inr ends ↦ let m = next_end.0 ends in u.1 (m.0, (was.nodes.exact m.0).1 m.1, m.2)
           ];
     }
       where
         one_later : (n : ℕ) → n ≤ suc n
         one_later n = omega arith
+
+    pub is_advanced : IsFollowed text level trace depth now goal → next.key ≡ goal.key → (old new : Found) → old.nodes.items ≡ [] → old.solved ≡ goal.solved →
+        next.nodes ≡ new.nodes.items → next.solved ≡ new.solved →
+        Grows old new (λ other. (node : Node) × Contains goal.nodes node × IsNextNode text level trace depth goal.key now node other)
+        ((node : Node) × Contains goal.nodes node × EndsNext text level trace depth goal.key now node) →
+        IsFollowed text level trace depth (suc now) next
+    is_advanced was same old new none before nodes solved grows =
+        is_followed_next was same (subst AreOnce (sym nodes) (grows.once (none_twice old.nodes.items none)))
+        (λ o. subst (λ (ns : List Node). Contains ns o ↔ ((node : Node) × Contains goal.nodes node × IsNextNode text level trace depth goal.key now node o)) (sym nodes)
+        (from_nothing old.nodes.items new.nodes.items none grows.nodes o))
+        (λ is. elim (grows.solved (sym solved ∙ is)) [
+          | inl held ↦ inl (sym before ∙ held)
+          | inr ends ↦ inr ends
+        ])
+        (λ is. let u = grows.unsolved (sym solved ∙ is) in (sym before ∙ u.0, u.1))

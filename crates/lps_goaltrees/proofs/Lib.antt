@@ -9,3 +9,11 @@ pub mod Closing
 pub mod Continuing
 pub mod Offering
 pub mod Proposed
+pub mod Places
+pub mod Settling
+pub mod Putting
+pub mod Resting
+pub mod Closings
+pub mod Listed
+pub mod Advancing
+pub mod Counting

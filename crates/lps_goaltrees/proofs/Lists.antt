@@ -5,7 +5,8 @@ use Rattle.std.specs.List.{AllByRecursion, AllZip, cons_option, filter, filter_m
 use Rattle.std.specs.List.Sorted.{IsStrictlySortedBy}
 use Rattle.std.specs.Ordering.{nat_cmp, on}
 use Rattle.std.specs.declared.cmp.Ordering.TheVariants.{Less}
-use Rattle.std.proofs.lemmas.List.Elements.{Contains-append_left, Contains-get_or, Contains-push, Contains-push_cases}
+use Rattle.std.proofs.lemmas.List.Elements.{Contains-append_left, Contains-get_or, Contains-push, Contains-push_cases, filter_map-append}
+use Rattle.std.proofs.lemmas.List.{take_more}
 use Rattle.lps_model.specs.Rules.{numbered}
 use Rattle.lps_model.proofs.Elements.{first_is_contained, first_or_later, later_is_contained, nothing_contained}
 use Rattle.lps_meaning.proofs.Lists.{number_contained}
@@ -13,10 +14,10 @@ use Rattle.lps_meaning.proofs.Lists.{number_contained}
 pub true_false : true ≡ false → ⊥
 true_false e = cc
 
-some_none : {A : Type 0} {x : A} → Some x ≡ None → ⊥
+pub some_none : {A : Type 0} {x : A} → Some x ≡ None → ⊥
 some_none e = cc
 
-some_same : {A : Type 0} {x y : A} → Some x ≡ Some y → x ≡ y
+pub some_same : {A : Type 0} {x y : A} → Some x ≡ Some y → x ≡ y
 some_same e = cc
 
 -- ---- elements
@@ -166,6 +167,10 @@ module _ {X : Type 0} where
   pub element_at : (xs : List X) (i : ℕ) (x : X) → i < length xs → x ≡ get_or xs i x → Contains xs x
   element_at xs i x lt is = subst (Contains xs) (sym is) (Contains-get_or xs i x lt)
 
+  -- one more that is taken
+  pub taken_next : (xs : List X) (i : ℕ) (x : X) → i < length xs → x ≡ get_or xs i x → (y : X) → Contains (take (i + 1) xs) y → Contains (take i xs) y ⊎ (y ≡ x)
+  taken_next xs i x lt is y h = (among_pushed (take i xs) x y).0 (subst (λ ys. Contains ys y) (take_more xs i x lt ∙ ap (λ z. take i xs ++ z ∷ []) (sym is)) h)
+
 -- what is chosen from a list
 module _ {X Y : Type 0} (f : X → Option Y) where
   pub of_chosen : (xs : List X) (y : Y) → Contains (filter_map f xs) y → (x : X) × Contains xs x × (f x ≡ Some y)
@@ -193,6 +198,10 @@ module _ {X Y : Type 0} (f : X → Option Y) where
       by : (r : Option Y) → Contains (filter_map f xs) y → Contains (cons_option r (filter_map f xs)) y
       by None h = h
       by (Some w) h = later_is_contained w (filter_map f xs) y h
+
+  -- what is chosen of one more
+  pub chosen_next : (xs : List X) (i : ℕ) (x : X) → i < length xs → x ≡ get_or xs i x → filter_map f (take (i + 1) xs) ≡ filter_map f (take i xs) ++ cons_option (f x) []
+  chosen_next xs i x lt is = ap (filter_map f) (take_more xs i x lt ∙ ap (λ z. take i xs ++ z ∷ []) (sym is)) ∙ filter_map-append f (take i xs) (x ∷ [])
 
   -- sorted by what they have from it
   module _ (n : X → ℕ) (m : Y → ℕ) (same : (x : X) (y : Y) → f x ≡ Some y → m y ≡ n x) where
@@ -235,6 +244,23 @@ module _ {X Y : Type 0} (R : X → Y → Type 0) where
     | inr more ↦ let m = to_zipped xs ys all.1 x more in (m.0, later_is_contained y ys m.0 m.1, m.2)
   ]
 
+  zip_next : (xs : List X) (ys : List Y) (i : ℕ) (x : X) (y : Y) → i < length xs → x ≡ get_or xs i x → AllZip R (take i xs) ys → R x y → AllZip R (take (suc i) xs) (ys ++ y ∷ [])
+  zip_next [] ys i x y lt at all is = absurd (omega arith)
+  zip_next (z ∷ xs) [] zero x y lt at all is = (subst (λ w. R w y) at is, tt)
+  zip_next (z ∷ xs) (w ∷ ys) zero x y lt at all is = absurd all
+  zip_next (z ∷ xs) [] (suc i) x y lt at all is = absurd all
+  zip_next (z ∷ xs) (w ∷ ys) (suc i) x y lt at all is = (all.0, zip_next xs ys i x y (omega arith) at all.1 is)
+
+  -- one more of each
+  pub zip_more : (xs : List X) (ys : List Y) (i : ℕ) (x : X) (y : Y) → i < length xs → x ≡ get_or xs i x → AllZip R (take i xs) ys → R x y → AllZip R (take (i + 1) xs) (ys ++ y ∷ [])
+  zip_more xs ys i x y lt at all is = rw add-one (zip_next xs ys i x y lt at all is)
+
+  pub zip_pushed : (xs : List X) (ys : List Y) (x : X) (y : Y) → AllZip R xs ys → R x y → AllZip R (xs ++ x ∷ []) (ys ++ y ∷ [])
+  zip_pushed [] [] x y all is = (is, tt)
+  zip_pushed [] (w ∷ ys) x y all is = absurd all
+  zip_pushed (z ∷ xs) [] x y all is = absurd all
+  zip_pushed (z ∷ xs) (w ∷ ys) x y all is = (all.0, zip_pushed xs ys x y all.1 is)
+
   module _ (n : X → ℕ) (m : Y → ℕ) (same : (x : X) (y : Y) → R x y → m y ≡ n x) where
     above_zipped : (k : ℕ) (xs : List X) (ys : List Y) → AllZip R xs ys → AllByRecursion (λ x. nat_cmp k (n x) ≡ Less) xs → AllByRecursion (λ y. nat_cmp k (m y) ≡ Less) ys
     above_zipped k [] [] zip all = tt
@@ -249,3 +275,18 @@ module _ {X Y : Type 0} (R : X → Y → Type 0) where
     rising_zipped (x ∷ xs) [] zip sorted = absurd zip
     rising_zipped (x ∷ xs) (y ∷ ys) zip sorted =
         (subst (λ j. AllByRecursion (λ z. nat_cmp j (m z) ≡ Less) ys) (sym (same x y zip.0)) (above_zipped (n x) xs ys zip.1 sorted.0), rising_zipped xs ys zip.1 sorted.1)
+
+-- what is chosen goes with others, also where one more is looked at
+module _ {X Y Z : Type 0} (f : X → Option Y) (R : Y → Z → Type 0) where
+  pub zip_chosen : (xs : List X) (i : ℕ) (x : X) (y : Y) (zs : List Z) (z : Z) → i < length xs → x ≡ get_or xs i x → f x ≡ Some y → AllZip R (filter_map f (take i xs)) zs → R y z →
+      AllZip R (filter_map f (take (i + 1) xs)) (zs ++ z ∷ [])
+  zip_chosen xs i x y zs z lt at is all r =
+      subst (λ ys. AllZip R ys (zs ++ z ∷ [])) (sym (chosen_next f xs i x lt at ∙ ap (λ o. filter_map f (take i xs) ++ cons_option o []) is)) (zip_pushed R (filter_map f (take i xs)) zs y z all r)
+
+  pub zip_passed : (xs : List X) (i : ℕ) (x : X) (zs : List Z) → i < length xs → x ≡ get_or xs i x → f x ≡ None → AllZip R (filter_map f (take i xs)) zs → AllZip R (filter_map f (take (i + 1) xs)) zs
+  zip_passed xs i x zs lt at is all =
+      subst (λ ys. AllZip R ys zs) (sym (chosen_next f xs i x lt at ∙ ap (λ o. filter_map f (take i xs) ++ cons_option o []) is ∙ append_none (filter_map f (take i xs)))) all
+    where
+      append_none : {A : Type 0} (ys : List A) → ys ++ [] ≡ ys
+      append_none [] = refl
+      append_none (y ∷ ys) = ap (λ more. y ∷ more) (append_none ys)

@@ -126,6 +126,14 @@ is_led_on text depth time facts events old new next advanced level levels trace 
     Pursues text level trace depth time stands.keys new) (sym is)
     (λ advanced state happened. led_on text level trace depth now facts events levels state happened old new next advanced stands) advanced state happened
 
+-- ---- what the last close left
+
+pub left_settled : (p : Pursued) → p.is_settled ≡ true → left_by_close p ≡ p.pursuit
+left_settled p settled = ap (λ (b : Bool). cond b p.pursuit p.before) settled
+
+pub left_unsettled : (p : Pursued) → p.is_settled ≡ false → left_by_close p ≡ p.before
+left_unsettled p unsettled = ap (λ (b : Bool). cond b p.pursuit p.before) unsettled
+
 -- ---- whether steps can be made
 
 pub ready_left : (text : Text) (p : Pursued) → IsReadyPursued text p → AreReadyGoals text (left_by_close p).goals

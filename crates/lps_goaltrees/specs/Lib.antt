@@ -1,4 +1,5 @@
 pub mod Pursued
+pub mod Slots
 pub mod Followed
 pub mod Found
 pub mod Offers

@@ -7,6 +7,8 @@ use Rattle.lps_model.specs.declared.cycle.Group.{Group}
 use Rattle.lps_meaning.specs.declared.node.Node.{Node}
 use Rattle.lps_meaning.specs.Plain.{Ranked, ranked_cmp}
 use Rattle.lps_nodes.specs.NextSteps.{IsProposed}
+use Rattle.lps_goaltrees.specs.declared.asked.Asked.{Asked}
+use Rattle.lps_goaltrees.specs.declared.goal.Goal.{Goal}
 
 module _ (text : Text) (now : ℕ) (nodes : List Node) where
   -- one of the nodes with the most groups done proposes the group, with its alternative and its rank
@@ -30,6 +32,11 @@ module _ (text : Text) (now : ℕ) (nodes : List Node) where
     pub each : (r : Ranked) → Contains ranked r → IsOffered r
     pub once : (r other : Ranked) → Contains ranked r → Contains ranked other → r.group ≡ other.group → r ≡ other
     pub first : (r : Ranked) → IsOffered r → (s : Ranked) × Contains ranked s × (s.group ≡ r.group) × (ranked_cmp r s ≡ Less → ⊥)
+
+-- the goal is asked what it proposes
+pub record IsAskedOf (text : Text) (time : ℕ) (goal : Goal) (asked : Asked) : Type 0 where
+  pub number : asked.goal ≡ goal.goal
+  pub proposed : AreProposed text time goal.nodes asked.proposals.items
 
 -- a node with so many groups done proposes the group, with its alternative and its rank
 pub record IsOfferOf (text : Text) (now most : ℕ) (node : Node) (r : Ranked) : Type 0 where

@@ -1,26 +1,34 @@
 //! What is kept of a goal at a time: what its alternatives are entered with, and what its nodes lead to in a cycle.
 ghost use Rattle.std.specs.Prelude.{◌≡◌, ◌≤◌, ◌<◌, IfOk, OnOk, Contains};
-ghost use Rattle.std.specs.List.{AllZip};
+ghost use Rattle.std.specs.List.{AllZip, filter_map};
 ghost use Rattle.lps_terms.specs.declared.atom.Atom.{Atom as Fluent};
 ghost use Rattle.lps_facts.specs.Facts.{members};
 ghost use Rattle.lps_residual.specs.Moments.{IsReady};
+ghost use Rattle.lps_residual.specs.Waking.{IsWake};
 ghost use Rattle.lps_solve.specs.Met.{AreGround};
 ghost use Rattle.lps_unify.specs.Bindings.{count_of};
 ghost use Rattle.lps_goaltrees.specs.Followed.{AreCallFree, IsEnterable};
 ghost use Rattle.lps_goaltrees.specs.Found.{GrowsByEntering, GrowsByStepping, HasAlternative, IsAdvanced, IsBegun};
-ghost use Rattle.lps_goaltrees.specs.Pursued.{AreReadyGoals, AreReadyNodes};
+ghost use Rattle.lps_goaltrees.specs.declared.slot.Which.TheVariants.{Now};
+ghost use Rattle.lps_goaltrees.specs.Pursued.{AreReadyGoals, AreReadyNodes, IsReadyGoal};
+ghost use Rattle.lps_goaltrees.specs.Slots.{AreRising, goals_of, version_at};
 
 use crate::found::Found;
 use crate::goal::Goal;
 use crate::rule::alternatives_of;
+use crate::slot::{Slot, Which};
+use crate::slots::goal_at;
 use lps_facts::Facts;
 use lps_meaning::{GoalId, GoalKey, Node, copy_key};
+use lps_model::Accepted;
+use lps_residual::{Wake, wake_of};
 use lps_seq::{Start, enter, progress};
 use lps_solve::Program;
 use lps_terms::Atom;
 use lps_unify::Bindings;
 use sqlite_items::Items;
 use std::alloc::{AllocError, Global};
+use std::collections::BTreeSet;
 
 /// A goal at its own time.
 pub(crate) fn begun(
@@ -40,7 +48,7 @@ pub(crate) fn begun(
     ensures number { IfOk result (λ begun. begun.goal ≡ goal) }
     ensures key { IfOk result (λ begun. begun.key ≡ key) }
     ensures begun { IfOk result (λ begun. IsBegun program.now depth (members facts.now) begun) }
-    ensures ready { IfOk result (λ begun. AreReadyNodes program.now begun.nodes) }
+    ensures ready { IfOk result (λ begun. IsReadyGoal program.now begun) }
     ensures same { bindings.new ≡ bindings.old }
 {
     let mut found = Found::new(alloc, false);
@@ -50,10 +58,12 @@ pub(crate) fn begun(
             alloc, program, depth, &key, number, facts, bindings, &mut found,
         )?;
     }
+    let wakes = wakes_of(alloc, program.text(), found.nodes.as_slice())?;
     Ok(Goal {
         goal,
         key,
         nodes: Items::from_vec(found.nodes),
+        wakes,
         solved: found.solved,
     })
 }
@@ -88,12 +98,13 @@ fn enter_alternative(
     found.add(stepped)
 }
 
-/// The same goals a cycle later.
+/// Those of some goals that have these numbers, a cycle later.
 pub(crate) fn advanced(
     alloc: Global,
     program: &Program,
     depth: u32,
-    goals: &[Goal],
+    slots: &[Slot],
+    numbers: &BTreeSet<u64>,
     time: u64,
     facts: &Facts,
     events: &[Atom],
@@ -104,14 +115,17 @@ pub(crate) fn advanced(
     requires ground { (a : Fluent) → Contains (members facts.now) a → AreGround a.args }
     requires events { (a : Fluent) → Contains events.now a → AreGround a.args }
     requires none { count_of bindings.now ≡ 0 }
-    requires ready { AreReadyGoals program.now goals.now }
-    ensures advanced { IfOk result (λ next. AllZip (IsAdvanced program.now depth time (members facts.now) events.now) goals.now next.items) }
+    requires rising { AreRising slots.now }
+    requires ready { AreReadyGoals program.now (goals_of Now slots.now) }
+    ensures advanced { IfOk result (λ next. AllZip (IsAdvanced program.now depth time (members facts.now) events.now) (filter_map (version_at Now slots.now) numbers.now.keys) next.items) }
     ensures ready { IfOk result (λ next. AreReadyGoals program.now next.items) }
     ensures same { bindings.new ≡ bindings.old }
 {
     let mut next = Vec::new(alloc);
-    for goal in goals {
-        next.push(advance_goal(alloc, program, depth, goal, time, facts, events, bindings)?)?;
+    for number in numbers.iter() {
+        if let Some(goal) = goal_at(slots, *number, Which::Now) {
+            next.push(advance_goal(alloc, program, depth, goal, time, facts, events, bindings)?)?;
+        }
     }
     Ok(next)
 }
@@ -134,7 +148,7 @@ fn advance_goal(
     requires none { count_of bindings.now ≡ 0 }
     requires ready { AreReadyNodes program.now goal.now.nodes }
     ensures advanced { IfOk result (λ next. IsAdvanced program.now depth time (members facts.now) events.now goal.now next) }
-    ensures ready { IfOk result (λ next. AreReadyNodes program.now next.nodes) }
+    ensures ready { IfOk result (λ next. IsReadyGoal program.now next) }
     ensures same { bindings.new ≡ bindings.old }
 {
     program.lawful();
@@ -144,10 +158,12 @@ fn advance_goal(
             alloc, program, depth, node, time, facts, events, bindings, &mut found,
         )?;
     }
+    let wakes = wakes_of(alloc, program.text(), found.nodes.as_slice())?;
     Ok(Goal {
         goal: goal.goal,
         key: copy_key(alloc, &goal.key)?,
         nodes: Items::from_vec(found.nodes),
+        wakes,
         solved: found.solved,
     })
 }
@@ -177,4 +193,16 @@ fn advance_node(
 {
     let stepped = progress(alloc, program, depth, node, time, facts, events, bindings)?;
     found.add(stepped)
+}
+
+/// What wakes each of some nodes.
+fn wakes_of(alloc: Global, text: &Accepted, nodes: &[Node]) -> Result<Items<Wake>, AllocError>
+    requires ready { AreReadyNodes text.now nodes.now }
+    ensures { IfOk result (λ wakes. AllZip (IsWake text.now) nodes.now wakes) }
+{
+    let mut wakes = Vec::new(alloc);
+    for node in nodes {
+        wakes.push(wake_of(alloc, text, node)?)?;
+    }
+    Ok(Items::from_vec(wakes))
 }

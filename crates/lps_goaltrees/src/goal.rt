@@ -1,10 +1,10 @@
-ghost use Rattle.std.specs.Prelude.{◌≡◌, IfOk};
+ghost use Rattle.std.specs.Prelude.{◌≡◌};
 ghost use Rattle.lps_meaning.specs.Reports.{is_pending};
 ghost use Rattle.lps_goaltrees.specs.Pursued.{closed_as};
 
-use lps_meaning::{Closed, GoalId, GoalKey, Node, copy_key, copy_node};
+use lps_meaning::{Closed, GoalId, GoalKey, Node};
+use lps_residual::Wake;
 use sqlite_items::Items;
-use std::alloc::{AllocError, Global};
 
 /// A goal that is pursued.
 #[derive(Drop)]
@@ -13,6 +13,8 @@ pub struct Goal {
     pub key: GoalKey,
     /// What is left of its live plans, each once.
     pub nodes: Items<Node>,
+    /// What wakes each of these nodes, in their order.
+    pub wakes: Items<Wake>,
     /// Whether an alternative of it is true.
     pub solved: bool,
 }
@@ -36,28 +38,4 @@ impl Goal {
     {
         self.closed().is_none()
     }
-}
-
-/// A goal equal to this one, or `AllocError` where memory ran out.
-pub(crate) fn copy_goal(alloc: Global, goal: &Goal) -> Result<Goal, AllocError>
-    ensures { IfOk result (λ copy. copy ≡ goal.now) }
-{
-    let key = copy_key(alloc, &goal.key)?;
-    let nodes = copy_nodes(alloc, goal.nodes.as_slice())?;
-    Ok(Goal {
-        goal: goal.goal,
-        key,
-        nodes,
-        solved: goal.solved,
-    })
-}
-
-fn copy_nodes(alloc: Global, nodes: &[Node]) -> Result<Items<Node>, AllocError>
-    ensures { IfOk result (λ copies. copies ≡ nodes.now) }
-{
-    let mut copies = Vec::new(alloc);
-    for node in nodes {
-        copies.push(copy_node(alloc, node)?)?;
-    }
-    Ok(Items::from_vec(copies))
 }

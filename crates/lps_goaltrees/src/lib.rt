@@ -14,12 +14,14 @@
 //! | file of `specs/` | defines |
 //! |---|---|
 //! | `Pursued` | what contracts see of the goals that are pursued |
+//! | `Slots` | how goals are kept |
 //! | `Followed` | when these stand for a trace, and what the calls make of them |
 //! | `Found` | what is found of a goal at a time |
 //! | `Offers` | what a goal proposes |
 //! | `Laws` | the laws |
 #![tactic(auto)]
 
+mod asked;
 mod following;
 mod found;
 mod goal;
@@ -27,10 +29,13 @@ mod goals;
 mod laws;
 mod offer;
 mod proposing;
-mod pursuit;
 mod rule;
+mod slot;
+mod slots;
+mod symbols;
+mod table;
 
+pub use asked::Asked;
 pub use goal::Goal;
 pub use goals::Goals;
 pub use laws::{offer_law, pursuit_law, solved_law};
-pub use proposing::proposals;

@@ -20,7 +20,7 @@ use std::collections::BTreeSet;
 ///
 /// # Errors
 /// `AllocError` where memory runs out.
-pub fn proposals(
+pub(crate) fn proposals(
     alloc: Global,
     text: &Accepted,
     goal: &Goal,

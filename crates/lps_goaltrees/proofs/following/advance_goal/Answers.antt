@@ -29,7 +29,7 @@ loop-node-preserved c =
 pub returns-clause-advanced : goal.returns-clause-advanced
 returns-clause-advanced c =
     let goal : Goal = c.args.goal.now in
-    let next : Goal = record { goal = goal.goal; key = c.in_ok-copy_key.field-0; nodes = c.from_vec.result; solved = c.loop-node.found.solved } in
+    let next : Goal = record { goal = goal.goal; key = c.in_ok-copy_key.field-0; nodes = c.from_vec.result; wakes = c.in_ok-wakes.wakes; solved = c.loop-node.found.solved } in
     let whole : take c.loop-node.node-index c.as_slice-node-items.result.now ≡ goal.nodes = all_taken c.as_slice-node-items.result.now c.loop-node.node-index c.loop-node-test.false ∙ c.as_slice-node-items.ensures in
     record {
       number = refl;

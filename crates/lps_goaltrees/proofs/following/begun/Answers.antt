@@ -46,7 +46,7 @@ returns-clause-begun c = λ level levels trace state.
     let of_text = subst (λ t. numbered (rules t) c.args.key.rule ≡ Some key.rule) (sym (c.text-2.ensures.same ∙ c.text.ensures)) key.of_text in
     let count : ℕ = c.in_ok-before-end.before-end in
     let whole : c.loop-before.before ≡ count = same_count c.loop-before.before count c.loop-before.auto.before-end c.loop-before-test.false in
-    is_begun c.args.program.now level trace c.args.depth (record { goal = c.args.goal; key = c.args.key; nodes = c.from_vec.result; solved = c.loop-before.found.solved }) key.rule key.of_text count
+    is_begun c.args.program.now level trace c.args.depth (record { goal = c.args.goal; key = c.args.key; nodes = c.from_vec.result; wakes = c.in_ok-wakes.wakes; solved = c.loop-before.found.solved }) key.rule key.of_text count
     (c.in_ok-before-end.ensures key.rule of_text) c.new-found.result c.loop-before.found c.new-found.ensures.nodes c.new-found.ensures.solved c.from_vec.ensures refl
     (subst (λ n. Grows c.new-found.result c.loop-before.found (λ node. (k : ℕ) × (k < n) × IsEnteredNode c.args.program.now level trace c.args.depth c.args.key (suc k) node)
     ((k : ℕ) × (k < n) × EndsAtOnce c.args.program.now level trace c.args.depth c.args.key (suc k))) whole (c.loop-before.invariant.grows level levels trace state))
