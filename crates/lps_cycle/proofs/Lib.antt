@@ -10,5 +10,6 @@ pub mod Agendas
 pub mod Counting
 pub mod Counts
 pub mod Later
+pub mod Sizing
 pub mod Standing
 pub mod Making

@@ -1,5 +1,5 @@
 -- The parts of a cycle put together: what happens in a round, and the agenda that goes on by it.
-use Rattle.std.proofs.Common.{ℕ, ◌≡◌, ◌+◌, List, ◌++◌, true, sym, subst, ◌∙◌}
+use Rattle.std.proofs.Common.{ℕ, ◌≡◌, ◌+◌, List, ◌++◌, true, refl, sym, subst, ◌∙◌}
 use Rattle.lps_terms.specs.declared.atom.Atom.{Atom}
 use Rattle.lps_terms.specs.declared.prefer.Prefer.{Prefer}
 use Rattle.lps_terms.specs.declared.text.Text.{Text}
@@ -12,12 +12,14 @@ use Rattle.lps_meaning.specs.declared.goal.Closed.{Closed}
 use Rattle.lps_meaning.specs.declared.goal.GoalId.{GoalId}
 use Rattle.lps_meaning.specs.declared.goal.NewGoal.{NewGoal}
 use Rattle.lps_antecedents.specs.Laws.{StandsForPrefixes}
-use Rattle.lps_antecedents.specs.Waiting.{AreReady}
+use Rattle.lps_antecedents.specs.Waiting.{IsReadyWaiting}
 use Rattle.lps_goaltrees.specs.Laws.{StandsInContinuations}
 use Rattle.lps_goaltrees.specs.Pursued.{IsReadyPursued}
 use Rattle.lps_cycle.specs.Agenda.{AgendaState, GoesOn, IsReachedBySome, IsReadyAgenda}
 use Rattle.lps_cycle.specs.Engine.{depth}
-use Rattle.lps_cycle.specs.Making.{HasSomeRun, IsMade}
+use Rattle.lps_cycle.specs.declared.engine.NotSettled.{NotSettled}
+use Rattle.lps_cycle.specs.declared.engine.NotSettled.TheVariants as not_settled
+use Rattle.lps_cycle.specs.Making.{HasSomeRun, IsMade, IsNotMade, IsNotSettled, not_made, sizes_with}
 use Rattle.lps_cycle.specs.Round.{IsDecision, RoundState, by_picks}
 use Rattle.lps_cycle.proofs.Standing.{reached_by_some}
 
@@ -52,11 +54,20 @@ module _ (text : Text) (facts events : List Atom) (verdicts : List Verdict) (rou
             (subst (λ es. GoesOn there depth (time + 1) after es old new created closed) (is_events ∙ happen) goes_on));
       }))
 
+-- what was tried is told where it is not made
+pub not_made_there : (text : Text) (prefer : Prefer) (keep time log : ℕ) (facts next : List Atom) (old new : AgendaState) (events : List Atom) (verdicts : List Verdict) (picks : List Pick)
+    (created : List NewGoal) (closed : List (GoalId × Closed)) → IsMade text depth prefer time facts next old new events verdicts picks created closed → (why : NotSettled) →
+    IsNotSettled keep (sizes_with next new log events picks) why →
+    IsNotMade text depth prefer keep time log facts old events (not_made why (time + 1) (record { events = events; verdicts = verdicts; picks = picks }))
+not_made_there text prefer keep time log facts next old new events verdicts picks created closed made not_settled.NoMemory over = tt
+not_made_there text prefer keep time log facts next old new events verdicts picks created closed made (not_settled.Over limit symbols) over =
+    record { next = next; new = new; created = created; closed = closed; made = made; cycle = refl; events_are = refl; excess = over }
+
 -- what is taken back is ready again
-pub ready_back : (text : Text) (earlier later back : AgendaState) → IsReadyAgenda text earlier → IsReadyAgenda text later → back.waiting.held ≡ later.waiting.before →
-    later.waiting.before ≡ earlier.waiting.held → (IsReadyPursued text later.goals → IsReadyPursued text back.goals) → back.goals.is_settled ≡ true → IsReadyAgenda text back
-ready_back text earlier later back was is held before goals settled = record {
-  waiting = subst (AreReady text) (sym (held ∙ before)) was.waiting;
+pub ready_back : (text : Text) (later back : AgendaState) → IsReadyAgenda text later → (IsReadyWaiting text later.waiting → IsReadyWaiting text back.waiting) →
+    (IsReadyPursued text later.goals → IsReadyPursued text back.goals) → back.goals.is_settled ≡ true → IsReadyAgenda text back
+ready_back text later back is waiting goals settled = record {
+  waiting = waiting is.waiting;
   goals = goals is.goals;
   settled = settled;
 }

@@ -1,7 +1,7 @@
 -- The candidates by rising number: where the one of a goal is, what it proposes, and whether it has a pick.
 use Rattle.std.proofs.Common.{◌≡◌, ◌<◌, ◌≤◌, ◌+◌, ◌++◌, ◌∙◌, ℕ, zero, suc, Bool, true, false, List, [], ◌∷◌, map, length, get_or, set, take, refl, sym, ap, subst, inl, inr, arith, nat_lt, Result, Ok, Err}
 use Rattle.std.specs.Prelude.{◌==◌, Contains, MatchOption, if◌then◌else◌}
-use Rattle.std.specs.List.{AllByRecursion, HoldsAt}
+use Rattle.std.specs.List.{AllByRecursion, AllZip, HoldsAt}
 use Rattle.std.specs.List.Sorted.{IsBinarySearchResult, IsSearchInRange, IsSortedBy, IsStrictlySortedBy}
 use Rattle.std.specs.Ordering.{is_lt, nat_cmp, on}
 use Rattle.std.specs.Result.{result_ok}
@@ -11,10 +11,11 @@ use Rattle.std.proofs.lemmas.List.Sorted.{searchable_from_sorted}
 use Rattle.std.specs.Cmp.{nat_cmp_total}
 use Rattle.lps_model.proofs.Elements.{first_or_later, nothing_contained}
 use Rattle.lps_meaning.specs.declared.goal.GoalId.{GoalId}
+use Rattle.lps_goaltrees.specs.declared.asked.Asked.{Asked}
 use Rattle.lps_goaltrees.specs.declared.goal.Goal.{Goal}
-use Rattle.lps_trial.proofs.Trials.{none_taken}
+use Rattle.lps_goaltrees.specs.Offers.{IsAskedOf}
 use Rattle.lps_cycle.specs.declared.candidates.Candidate.{Candidate}
-use Rattle.lps_cycle.specs.Candidates.{AreAsked, AreRising, IsAsked, groups_of, is_picked_among, number_of, numbers_of, proposers_of, with_pick, with_picks}
+use Rattle.lps_cycle.specs.Candidates.{AreAsked, AreRising, IsAsked, groups_of, is_picked_among, number_of, numbers_of, proposers_of, unpicked, with_pick, with_picks}
 use Rattle.lps_terms.specs.declared.text.Text.{Text}
 
 -- ---- rising numbers
@@ -146,18 +147,11 @@ none_rise = tt
 
 -- ---- the goals that were asked
 
-asked_next : (text : Text) (time : ℕ) (goals : List Goal) (cs : List Candidate) (i : ℕ) (goal : Goal) (c : Candidate) → i < length goals → goal ≡ get_or goals i goal → AreAsked text time (take i goals) cs →
-    IsAsked text time goal c → AreAsked text time (take (suc i) goals) (cs ++ c ∷ [])
-asked_next text time [] cs i goal c lt at are is = absurd (omega arith)
-asked_next text time (g ∷ goals) [] zero goal c lt at are is = (subst (λ (g : Goal). IsAsked text time g c) at is, subst (λ (gs : List Goal). AreAsked text time gs []) (sym (none_taken goals)) tt)
-asked_next text time (g ∷ goals) (d ∷ cs) zero goal c lt at are is = absurd are
-asked_next text time (g ∷ goals) [] (suc i) goal c lt at are is = absurd are
-asked_next text time (g ∷ goals) (d ∷ cs) (suc i) goal c lt at are is = (are.0, asked_next text time goals cs i goal c (omega arith) at are.1 is)
-
-pub asked_more : (text : Text) (time : ℕ) (goals : List Goal) (cs : List Candidate) (i : ℕ) (goal : Goal) (c : Candidate) → i < length goals → goal ≡ get_or goals i goal → AreAsked text time (take i goals) cs →
-    IsAsked text time goal c → AreAsked text time (take (i + 1) goals) (cs ++ c ∷ [])
-asked_more text time goals cs i goal c lt at are is =
-    let same : suc i ≡ i + 1 = omega arith in subst (λ n. AreAsked text time (take n goals) (cs ++ c ∷ [])) same (asked_next text time goals cs i goal c lt at are is)
+pub asked_unpicked : (text : Text) (time : ℕ) (goals : List Goal) (asked : List Asked) → AllZip (IsAskedOf text time) goals asked → AreAsked text time goals (map unpicked asked)
+asked_unpicked text time [] [] all = tt
+asked_unpicked text time [] (one ∷ asked) all = absurd all
+asked_unpicked text time (goal ∷ goals) [] all = absurd all
+asked_unpicked text time (goal ∷ goals) (one ∷ asked) all = (record { number = all.0.number; proposed = all.0.proposed; free = refl }, asked_unpicked text time goals asked all.1)
 
 asked_higher : (text : Text) (time : ℕ) (x : ℕ) (goals : List Goal) (cs : List Candidate) → AreAsked text time goals cs → AllByRecursion (λ (goal : Goal). nat_cmp x goal.goal.0 ≡ Less) goals →
     AllByRecursion (λ y. nat_cmp x y ≡ Less) (numbers_of cs)

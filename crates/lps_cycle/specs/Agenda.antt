@@ -11,7 +11,7 @@ use Rattle.lps_meaning.specs.declared.goal.GoalKey.{GoalKey}
 use Rattle.lps_meaning.specs.declared.goal.NewGoal.{NewGoal}
 use Rattle.lps_meaning.specs.Cycles.{AreGoals}
 use Rattle.lps_meaning.specs.Reports.{AreClosedIn, AreCreated}
-use Rattle.lps_antecedents.specs.Waiting.{AreReady, StandsFor, WaitingNodes}
+use Rattle.lps_antecedents.specs.Waiting.{IsReadyWaiting, StandsFor, WaitingNodes}
 use Rattle.lps_nodes.specs.Plans.{AreKeysOf}
 use Rattle.lps_goaltrees.specs.Followed.{InStateOf, IsKeyOfGoal, Pursues, StandsAt}
 use Rattle.lps_goaltrees.specs.Pursued.{IsReadyPursued, Pursued, Pursuit}
@@ -24,7 +24,7 @@ pub record AgendaState : Type 0 where
 
 -- steps can be made on all that it has, and its goals were closed last
 pub record IsReadyAgenda (text : Text) (agenda : AgendaState) : Type 0 where
-  pub waiting : AreReady text agenda.waiting.held
+  pub waiting : IsReadyWaiting text agenda.waiting
   pub goals : IsReadyPursued text agenda.goals
   pub settled : agenda.goals.is_settled ≡ true
 

@@ -5,6 +5,7 @@ use Rattle.std.specs.List.Sorted.{IsStrictlySortedBy}
 use Rattle.std.specs.Ordering.{nat_cmp}
 use Rattle.lps_terms.specs.declared.text.Text.{Text}
 use Rattle.lps_model.specs.declared.cycle.Group.{Group}
+use Rattle.lps_goaltrees.specs.declared.asked.Asked.{Asked}
 use Rattle.lps_goaltrees.specs.declared.goal.Goal.{Goal}
 use Rattle.lps_goaltrees.specs.Offers.{AreProposed}
 use Rattle.lps_cycle.specs.declared.candidates.Candidate.{Candidate}
@@ -43,6 +44,10 @@ pub record IsAsked (text : Text) (time : ℕ) (goal : Goal) (candidate : Candida
   pub number : candidate.goal ≡ goal.goal
   pub proposed : AreProposed text time goal.nodes candidate.proposals
   pub free : candidate.is_picked ≡ false
+
+-- a goal that was asked, of which nothing was picked
+abbrev pub unpicked : Asked → Candidate
+unpicked asked = record { goal = asked.goal; proposals = asked.proposals.items; is_picked = false }
 
 -- each of them is that of a goal
 abbrev pub AreAsked : Text → ℕ → List Goal → List Candidate → Type 0

@@ -5,17 +5,21 @@ ghost use Rattle.lps_terms.specs.declared.text.Text.{Text};
 ghost use Rattle.lps_model.specs.Clauses.{clauses};
 ghost use Rattle.lps_model.specs.declared.trace.Trace.{Trace};
 ghost use Rattle.lps_derivation.specs.Levels.{AreLevels};
+ghost use Rattle.lps_antecedents.specs.Waiting.{IsReadyWaiting};
 ghost use Rattle.lps_facts.specs.Facts.{members};
 ghost use Rattle.lps_goaltrees.specs.Followed.{AreCallFree};
 ghost use Rattle.lps_goaltrees.specs.Pursued.{IsReadyPursued, left_by_close};
+ghost use Rattle.lps_limits.specs.Sizes.{kept_size};
 ghost use Rattle.lps_meeting.specs.Stages.{IsStateOf};
+ghost use Rattle.lps_sizes.specs.Sizes.{limited};
 ghost use Rattle.lps_solve.specs.Met.{AreGround};
 ghost use Rattle.lps_unify.specs.Bindings.{count_of};
 ghost use Rattle.lps_cycle.specs.Agenda.{AreAdded, AreKeysOfGoals, BeginsWith, GoesOn, IsPursuedOn, IsReachedBySome, IsReadyAgenda, IsRenewed, IsSameAgenda, LeadsBack};
 
-use lps_antecedents::{Held, Waiting};
+use lps_antecedents::Waiting;
 use lps_facts::Facts;
-use lps_goaltrees::{Goal, Goals};
+use lps_goaltrees::Goals;
+use lps_limits::kept;
 use lps_meaning::{Closed, GoalId, GoalKey, NewGoal, copy_key};
 use lps_solve::Program;
 use lps_terms::Atom;
@@ -82,18 +86,18 @@ impl Agenda {
         Ok((Agenda { waiting, goals }, told))
     }
 
-    /// What waits.
-    pub(crate) fn waiting(&self) -> &[Held]
-        ensures { result.now ≡ self.now.waiting.held }
+    /// The goals that are pending.
+    pub(crate) fn goals(&self) -> &Goals
+        ensures { result.now ≡ self.now.goals }
     {
-        self.waiting.held()
+        &self.goals
     }
 
-    /// The goals that are pending, by number.
-    pub(crate) fn pending(&self) -> &[Goal]
-        ensures { result.now ≡ self.now.goals.pursuit.goals }
+    /// How many symbols are kept of what waits and of what is pursued. `u64::MAX` stands for that number and all above.
+    pub(crate) fn symbols(&self) -> u64
+        ensures { result ≡ limited (kept_size self.now.waiting.held self.now.goals.pursuit.goals) }
     {
-        self.goals.pending()
+        kept(self.waiting.symbols(), self.goals.symbols())
     }
 
     /// Carries all of it over a cycle, and tells which goals the cycle creates and closes. The facts are the state at this time, and the
@@ -145,6 +149,7 @@ impl Agenda {
         ensures held { self.new.waiting.held ≡ self.old.waiting.before }
         ensures pursuit { self.new.goals.pursuit ≡ self.old.goals.before }
         ensures settled { self.new.goals.is_settled ≡ true }
+        ensures waiting { (text : Text) → IsReadyWaiting text self.old.waiting → IsReadyWaiting text self.new.waiting }
         ensures ready { (text : Text) → IsReadyPursued text self.old.goals → IsReadyPursued text self.new.goals }
     {
         self.waiting.undo();

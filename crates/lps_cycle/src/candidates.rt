@@ -4,9 +4,9 @@ ghost use Rattle.std.specs.List.{HoldsAt};
 ghost use Rattle.std.specs.List.Sorted.{IsStrictlySortedBy};
 ghost use Rattle.std.specs.Ordering.{nat_cmp, on};
 ghost use Rattle.lps_goaltrees.specs.Pursued.{AreReadyGoals};
-ghost use Rattle.lps_cycle.specs.Candidates.{AreAsked, AreRising, groups_of, is_picked_among, number_of, numbers_of, proposers_of, with_picks};
+ghost use Rattle.lps_cycle.specs.Candidates.{AreAsked, AreRising, groups_of, is_picked_among, number_of, numbers_of, proposers_of, unpicked, with_picks};
 
-use lps_goaltrees::{Goal, proposals};
+use lps_goaltrees::{Asked, Goals};
 use lps_meaning::GoalId;
 use lps_model::{Accepted, Group};
 use sqlite_items::Items;
@@ -60,13 +60,13 @@ impl Candidates {
         alloc: Global,
         text: &Accepted,
         time: u64,
-        goals: &[Goal],
+        goals: &Goals,
     ) -> Result<Candidates, AllocError>
-        requires ready { AreReadyGoals text.now goals.now }
-        requires rising { IsStrictlySortedBy (on (λ goal. goal.goal.0) nat_cmp) goals.now }
-        ensures { IfOk result (λ candidates. AreAsked text.now time goals.now candidates) }
+        requires ready { AreReadyGoals text.now goals.now.pursuit.goals }
+        requires rising { IsStrictlySortedBy (on (λ goal. goal.goal.0) nat_cmp) goals.now.pursuit.goals }
+        ensures { IfOk result (λ candidates. AreAsked text.now time goals.now.pursuit.goals candidates) }
     {
-        let candidates = asked(alloc, text, time, goals)?;
+        let candidates = unpicked(alloc, goals.ask(alloc, text, time)?)?;
         let goals = goals_of(alloc, candidates.as_slice())?;
         Ok(Candidates { goals, candidates })
     }
@@ -120,22 +120,15 @@ impl Candidates {
     }
 }
 
-/// Asks each of some goals what it proposes.
-fn asked(
-    alloc: Global,
-    text: &Accepted,
-    time: u64,
-    goals: &[Goal],
-) -> Result<Vec<Candidate>, AllocError>
-    requires ready { AreReadyGoals text.now goals.now }
-    ensures { IfOk result (λ candidates. AreAsked text.now time goals.now candidates.items) }
+/// Candidates of which nothing was picked yet.
+fn unpicked(alloc: Global, asked: Vec<Asked>) -> Result<Vec<Candidate>, AllocError>
+    ensures { IfOk result (λ candidates. candidates.items ≡ map unpicked asked.items) }
 {
-    let mut candidates = Vec::with_capacity(alloc, goals.len())?;
-    for goal in goals {
-        let groups = proposals(alloc, text, goal, time)?;
+    let mut candidates = Vec::with_capacity(alloc, asked.len())?;
+    for one in asked {
         candidates.push(Candidate {
-            goal: goal.goal,
-            proposals: Items::from_vec(groups),
+            goal: one.goal,
+            proposals: Items::from_vec(one.proposals),
             is_picked: false,
         })?;
     }

@@ -1,7 +1,8 @@
 //! A cycle that is being made: its events are admitted, and actions are picked for the pending goals.
-ghost use Rattle.std.specs.Prelude.{◌≡◌, ◌++◌, [], IfOk, IsTrue, OnErr, OnOk};
+ghost use Rattle.std.specs.Prelude.{◌≡◌, ◌⊎◌, ◌++◌, [], Contains, IfOk, IsTrue, OnErr, OnOk};
 ghost use Rattle.std.specs.List.{AllByRecursion};
 ghost use Rattle.std.specs.List.Sorted.{IsStrictlySortedBy};
+ghost use Rattle.lps_terms.specs.declared.atom.Atom.{Atom as Fact};
 ghost use Rattle.lps_terms.specs.Order.{atom_cmp};
 ghost use Rattle.lps_model.specs.Acceptance.{IsAccepted};
 ghost use Rattle.lps_model.specs.Formed.{is_formed};
@@ -18,7 +19,7 @@ use crate::admission::admit;
 use crate::candidates::Candidates;
 use lps_choice::{Chooser, Plain, World, choice_law, copy_group};
 use lps_facts::Facts;
-use lps_goaltrees::{Goal, offer_law};
+use lps_goaltrees::{Goals, offer_law};
 use lps_meaning::GoalId;
 use lps_model::{Accepted, Group, Pick, Verdict};
 use lps_nodes::led_law;
@@ -124,6 +125,20 @@ impl Round {
         self.trial.events()
     }
 
+    /// The picks among what happens so far.
+    pub(crate) fn picks(&self) -> &[Pick]
+        ensures { result.now ≡ self.now.picks }
+    {
+        self.picks.as_slice()
+    }
+
+    /// Copies of the facts of the state after the events so far that are not in the state before.
+    pub(crate) fn begun(&self, alloc: Global) -> Result<Vec<Atom>, AllocError>
+        ensures { IfOk result (λ begun. (a : Fact) → Contains self.now.next a → Contains self.now.facts a ⊎ Contains begun.items a) }
+    {
+        self.trial.begun(alloc, &self.theory)
+    }
+
     /// What holds of a round. It does nothing.
     pub(crate) fn lawful(&self)
         ensures accepted { IsAccepted self.now.text }
@@ -145,14 +160,14 @@ impl Round {
         alloc: Global,
         prefer: Prefer,
         time: u64,
-        goals: &[Goal],
+        goals: &Goals,
         events: &[Atom],
     ) -> Result<Items<Verdict>, AllocError>
         requires anew { IsAnew self.old }
         requires events { AllByRecursion (MayCome self.old.text) events.now }
-        requires ready { AreReadyGoals self.old.text goals.now }
-        requires pursued { ArePursued self.old.text 100 time self.old.facts goals.now }
-        ensures decided { IfOk result (λ verdicts. (pursuit : Pursuit) → pursuit.goals ≡ goals.now →
+        requires ready { AreReadyGoals self.old.text goals.now.pursuit.goals }
+        requires pursued { ArePursued self.old.text 100 time self.old.facts goals.now.pursuit.goals }
+        ensures decided { IfOk result (λ verdicts. (pursuit : Pursuit) → pursuit.goals ≡ goals.now.pursuit.goals →
             IsDecision self.old.text 100 prefer time self.old.facts pursuit events.now verdicts self.new.picks) }
         ensures events { IfOk result (λ verdicts. self.new.events ≡ admitted events.now verdicts ++ by_picks self.new.picks) }
         ensures text { self.new.text ≡ self.old.text }
@@ -182,11 +197,11 @@ impl Round {
     }
 
     /// Asks the pending goals what they propose.
-    fn ask(&mut self, alloc: Global, time: u64, goals: &[Goal]) -> Result<(), AllocError>
-        requires ready { AreReadyGoals self.old.text goals.now }
-        requires pursued { ArePursued self.old.text 100 time self.old.facts goals.now }
+    fn ask(&mut self, alloc: Global, time: u64, goals: &Goals) -> Result<(), AllocError>
+        requires ready { AreReadyGoals self.old.text goals.now.pursuit.goals }
+        requires pursued { ArePursued self.old.text 100 time self.old.facts goals.now.pursuit.goals }
         requires picks { self.old.picks ≡ [] }
-        ensures proposers { OnOk result (AreProposers self.old.text time goals.now self.new.proposers) }
+        ensures proposers { OnOk result (AreProposers self.old.text time goals.now.pursuit.goals self.new.proposers) }
         ensures same { IsSameBut self.old self.new }
     {
         led_law();
@@ -212,8 +227,9 @@ impl Round {
         Ok(Items::from_vec(replace(&mut self.picks, Vec::new(alloc))))
     }
 
-    /// Lets nothing happen. This takes no memory.
-    pub(crate) fn clear(&mut self)
+    /// Lets nothing happen, and gives the picks that were made. This takes no memory.
+    pub(crate) fn clear(&mut self, alloc: Global) -> Items<Pick>
+        ensures picks { result ≡ self.old.picks }
         ensures text { self.new.text ≡ self.old.text }
         ensures facts { self.new.facts ≡ self.old.facts }
         ensures anew { IsAnew self.new }
@@ -221,7 +237,7 @@ impl Round {
         self.trial.undo_to(&self.start);
         self.admitted = 0;
         self.candidates.clear();
-        self.picks.truncate(0);
+        Items::from_vec(replace(&mut self.picks, Vec::new(alloc)))
     }
 }
 

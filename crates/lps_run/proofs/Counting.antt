@@ -20,8 +20,8 @@ pub counted_one : PlainRunsAreUnique → (text : Text) (level : List ℕ → ℕ
     Reported text stream start printed source a → Reported text stream other shown ended b → a ≡ b
 counted_one unique text level levels stream start other printed shown source ended a b one two =
     let batches = sound_one text stream one.batches two.batches one.sound two.sound in
-    let run = subst (λ (bs : List (List Atom)). IsPlainRun text level depth Oldest bs one.trace) batches (one.run level levels) in
-    let trace = unique text level depth Oldest two.batches one.trace two.trace run (two.run level levels) in
+    let run = subst (λ (bs : List (List Atom)). IsPlainRun text level depth Oldest bs one.trace) batches (one.run.plain level levels) in
+    let trace = unique text level depth Oldest two.batches one.trace two.trace run (two.run.plain level levels) in
     let x = one.reported level levels in
     let y = two.reported level levels in
     sym x.1 ∙ counts_unique text level depth two.trace x.0.counts y.0.counts (subst (λ (t : Trace). AreCounts text level depth t x.0.counts) trace x.0.are_counts) y.0.are_counts ∙ y.1

@@ -2,6 +2,7 @@ pub mod CallFree
 pub mod Feeds
 pub mod Judging
 pub mod OneWay
+pub mod Fullness
 pub mod Counting
 pub mod Reports
 pub mod Steps

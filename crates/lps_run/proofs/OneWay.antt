@@ -83,7 +83,7 @@ feedless text cycle line kind (inr m) = m.is.is.no_feed
 -- ---- whole lines
 
 -- behind these batches and lines, what is left goes on with these lines, and then the other is left
-record Longer (text : Text) (cycles : ℕ) (rest left : List ℕ) (batches more : List (List Atom)) (lines after : ℕ) : Type 0 where
+pub record Longer (text : Text) (cycles : ℕ) (rest left : List ℕ) (batches more : List (List Atom)) (lines after : ℕ) : Type 0 where
   pub extra : List ℕ
   pub others : List (List Atom)
   pub are : ArePassed text lines (cycles + length batches) extra others after
@@ -102,7 +102,7 @@ behind_batch {text} {cycles} {rest} {left} {batches} {more} {lines} {after} a b 
 }
 
 -- of two fronts of the same bytes one goes on from the other
-ahead : (text : Text) {lines cycles n m : ℕ} {front other : List ℕ} {bs cs : List (List Atom)} → ArePassed text lines cycles front bs n → ArePassed text lines cycles other cs m →
+pub ahead : (text : Text) {lines cycles n m : ℕ} {front other : List ℕ} {bs cs : List (List Atom)} → ArePassed text lines cycles front bs n → ArePassed text lines cycles other cs m →
     (rest left : List ℕ) → front ++ rest ≡ other ++ left → Longer text cycles rest left bs cs n m ⊎ Longer text cycles left rest cs bs m n
 ahead text {cycles = cycles} {m = m} {other = other} {cs = cs} (judged.none {lines = lines}) second rest left e =
     inl (record { extra = other; others = cs; are = subst (λ k. ArePassed text lines k other cs m) (let same : cycles ≡ cycles + 0 = omega arith in same) second; split = e; same = refl })
@@ -149,7 +149,7 @@ stuck text {cycles = cycles} (judged.batch {rest = r} next batch fits more) line
 
 -- ---- streams
 
-whole_longer : (text : Text) (left : List ℕ) (a b : List (List Atom)) (n m : ℕ) → Longer text 0 [] left a b n m → (left ≡ []) × (b ≡ a)
+pub whole_longer : (text : Text) (left : List ℕ) (a b : List (List Atom)) (n m : ℕ) → Longer text 0 [] left a b n m → (left ≡ []) × (b ≡ a)
 whole_longer text left a b n m g =
     let sizes : length g.extra + length left ≡ 0 = sym (ap length g.split ∙ length-append g.extra left) in
     let none : g.extra ≡ [] = empty g.extra (omega (arith, sizes)) in

@@ -4,7 +4,7 @@ use Rattle.std.proofs.lemmas.List.{append_cancel_right, length-take}
 use Rattle.lps_outside.specs.Bytes.{Stream, Takes}
 use Rattle.lps_run.specs.declared.stream.Running.{Running}
 use Rattle.lps_run.specs.declared.stop.Stop.{Stop}
-use Rattle.lps_run.specs.declared.stop.Stop.TheVariants.{NoMemory, Refused, CycleLimit, StreamLimit, EventFault, PrintFault}
+use Rattle.lps_run.specs.declared.stop.Stop.TheVariants.{NoMemory, Refused, CycleLimit, Full, StreamLimit, EventFault, PrintFault}
 use Rattle.lps_run.specs.Judged.{ended}
 use Rattle.lps_run.specs.Stopping.{EndsAtRead, Stopped, StopsAtLine, LimitIs, TakesWithin, KeepsLimit}
 use Rattle.lps_run.specs.Running.{Standing, Reading}
@@ -63,6 +63,7 @@ line_keeps : (taken before after : ℕ) (stop : Stop) → StopsAtLine stop → t
 line_keeps taken before after NoMemory kind h = h
 line_keeps taken before after (Refused line) kind h = h
 line_keeps taken before after CycleLimit kind h = h
+line_keeps taken before after (Full full) kind h = h
 line_keeps taken before after PrintFault kind h = h
 line_keeps taken before after StreamLimit kind h = absurd kind
 line_keeps taken before after EventFault kind h = absurd kind
@@ -96,6 +97,7 @@ shifted : (taken before now after : ℕ) (stop : Stop) → before ≡ taken + no
 shifted taken before now after NoMemory e h = omega arith
 shifted taken before now after (Refused line) e h = omega arith
 shifted taken before now after CycleLimit e h = omega arith
+shifted taken before now after (Full full) e h = omega arith
 shifted taken before now after PrintFault e h = omega arith
 shifted taken before now after StreamLimit e h = omega arith
 shifted taken before now after EventFault e h = omega arith
@@ -108,6 +110,7 @@ line_result before after (Ok x) kind h = omega arith
 line_result before after (Err NoMemory) kind h = omega arith
 line_result before after (Err (Refused line)) kind h = omega arith
 line_result before after (Err CycleLimit) kind h = omega arith
+line_result before after (Err (Full full)) kind h = omega arith
 line_result before after (Err PrintFault) kind h = omega arith
 line_result before after (Err StreamLimit) kind h = absurd (kind StreamLimit refl)
 line_result before after (Err EventFault) kind h = absurd (kind EventFault refl)

@@ -26,7 +26,7 @@ last_one (x ∷ xs) y = last_one xs y
 is_block : {engine : EngineState} {batches : List (List Atom)} {trace : Trace} (stands : Stands engine batches trace) (number : ℕ) (cycle : Cycle) (block : List ℕ) → number ≡ length trace.cycles → cycle ≡ cycle_at trace (length trace.cycles) →
     block ≡ block_text number (block_with engine cycle) → (level : List ℕ → ℕ) → AreLevels (clauses engine.text) level → IsBlock engine.text level depth trace (length trace.cycles) block
 is_block {engine = engine} {trace = trace} stands number cycle block number_is at spelled level levels =
-    (block_with engine (cycle_at trace (length trace.cycles)), stands.block level levels, spelled ∙ (λ i. block_text (number_is i) (block_with engine (at i))))
+    (block_with engine (cycle_at trace (length trace.cycles)), stands.carries.block level levels, spelled ∙ (λ i. block_text (number_is i) (block_with engine (at i))))
 
 -- ---- several blocks
 
@@ -64,7 +64,7 @@ pub block_more : BlocksStay → (before after : EngineState) (batches more : Lis
 block_more stay before after batches more trace cycle blocks block next same_text reported spelled level levels =
     let longer : length (trace.cycles ++ cycle ∷ []) ≡ suc (length trace.cycles) = omega (arith, length-append trace.cycles (cycle ∷ [])) in
     let at : cycle ≡ cycle_at (then_cycle trace cycle) (length (trace.cycles ++ cycle ∷ [])) = sym (ap (cycle_at (then_cycle trace cycle)) longer ∙ ap cycle_or_none (last_one trace.cycles cycle)) in
-    let one = is_block next after.cycles cycle block (sym next.count) at spelled level levels in
+    let one = is_block next after.cycles cycle block (sym next.carries.count) at spelled level levels in
     let old : AreBlocks after.text level depth trace 0 (suc (length trace.cycles)) blocks =
     subst (λ (t : Text). AreBlocks t level depth trace 0 (suc (length trace.cycles)) blocks) (sym same_text) (reported level (subst (λ (t : Text). AreLevels (clauses t) level) same_text levels)) in
     let kept = blocks_stay stay after.text level trace (then_cycle trace cycle) (record { initial = refl; more = cycle ∷ []; cycles = refl }) 0 (suc (length trace.cycles)) blocks (omega arith) old in

@@ -23,12 +23,15 @@ use Rattle.lps_batches.specs.Stream as reads
 use Rattle.lps_outside.specs.Bytes.{IsFront, Appends, AppendsFront, Stream}
 use Rattle.lps_run.specs.declared.stream.Running.{Running}
 use Rattle.lps_run.specs.declared.stop.Stop.{Stop}
-use Rattle.lps_run.specs.declared.stop.Stop.TheVariants.{NoMemory, Refused, CycleLimit, StreamLimit, EventFault, PrintFault}
-use Rattle.lps_cycle.specs.Engine.{EngineState, IsOfRun, IsRunOver, Stands, block_with, counts_of}
+use Rattle.lps_run.specs.declared.stop.Stop.TheVariants.{NoMemory, Refused, CycleLimit, Full, StreamLimit, EventFault, PrintFault}
+use Rattle.lps_limits.specs.declared.full.Full.{Full as Fullness}
+use Rattle.lps_cycle.specs.declared.error.EngineError.{EngineError}
+use Rattle.lps_cycle.specs.declared.error.EngineError.TheVariants as error
+use Rattle.lps_cycle.specs.Engine.{EngineState, IsFullNext, IsNotAdded, IsOfRun, IsRunOver, IsWithinAll, Stands, block_with, counts_of}
 use Rattle.lps_run.specs.Judged.{AreWhole, HasFirst, IsBatchOf, batch_fault, ended}
 use Rattle.lps_run.specs.Judged as judged
 use Rattle.lps_outside.specs.Causes.{Rose}
-use Rattle.lps_run.specs.Stopping.{Counted, MayEnd, PrintsBlocks, PrintsRunFront, PrintsFront, Reported, EndsAtLimit, EndsAtLine, Stopped, StopsAtLine}
+use Rattle.lps_run.specs.Stopping.{Counted, CountedAt, LimitAt, EndsFullNext, IsRun, MayEnd, PrintsBlocks, PrintsRunFront, PrintsFront, Reported, EndsAtLimit, EndsAtLine, Stopped, StopsAtLine, StopsFirst, kept_by_default, stop_by}
 use Rattle.lps_run.specs.Running.{Due, Made, Standing, Finished}
 use Rattle.lps_run.proofs.Feeds.{long_ends, no_whole}
 use Rattle.lps_run.proofs.Judging.{batch_more, pass_more, skip_more}
@@ -36,11 +39,14 @@ use Rattle.lps_run.proofs.Reports.{block_more, block_first, last_of, report_of}
 
 -- a run has a cycle for each batch
 batch_count : {engine : EngineState} {batches : List (List Atom)} {trace : Trace} → Stands engine batches trace → length batches ≡ engine.cycles
-batch_count {trace = trace} stands = sym (ap length stands.events) ∙ length-map trace.cycles (λ (cycle : Cycle). cycle.events) ∙ stands.count
+batch_count {trace = trace} stands = sym (ap length stands.carries.events) ∙ length-map trace.cycles (λ (cycle : Cycle). cycle.events) ∙ stands.carries.count
 
--- the run of an engine that prefers the oldest goals
-pub oldest_run : {engine : EngineState} {batches : List (List Atom)} {trace : Trace} → engine.prefer ≡ Oldest → Stands engine batches trace → IsRunOver engine.text Oldest batches trace
-oldest_run {engine = engine} {batches = batches} {trace = trace} oldest stands = subst (λ (p : Prefer). IsRunOver engine.text p batches trace) oldest stands.run
+-- the run of an engine as a call makes it
+pub called_run : {engine : EngineState} {batches : List (List Atom)} {trace : Trace} → engine.prefer ≡ Oldest → engine.keep ≡ kept_by_default → Stands engine batches trace → IsRun engine.text batches trace
+called_run {engine = engine} {batches = batches} {trace = trace} oldest keeps stands = record {
+  plain = subst (λ (p : Prefer). IsRunOver engine.text p batches trace) oldest stands.carries.run;
+  within = subst (λ n. IsWithinAll engine.text n trace) keeps stands.within;
+}
 
 -- the run of one cycle more
 pub run_more : (before after : EngineState) (events : List Atom) (cycle : Cycle) →
@@ -59,7 +65,7 @@ module _ {running : Running} {stream rest blocks : List ℕ} (made : Made runnin
     batches = made.batches;
     first = made_first;
     trace = made.trace;
-    run = oldest_run made.oldest made.stands;
+    run = called_run made.oldest made.keeps made.stands;
     blocks = blocks;
     reported = made.reported;
     ending = [];
@@ -71,15 +77,15 @@ module _ {running : Running} {stream rest blocks : List ℕ} (made : Made runnin
 
   -- what is printed are the blocks of the run over the batches
   abbrev pub made_prints : (start : List ℕ) (printed : Option (List ℕ)) → printed ≡ Some (start ++ blocks) → PrintsBlocks running.engine.text made.batches start printed
-  made_prints start printed told = record { trace = made.trace; run = oldest_run made.oldest made.stands; blocks = blocks; reported = made.reported; told = told }
+  made_prints start printed told = record { trace = made.trace; run = called_run made.oldest made.keeps made.stands; blocks = blocks; reported = made.reported; told = told }
 
 -- what was printed so far is a front of the report
 pub standing_front : {running : Running} {stream rest start : List ℕ} {printed : Option (List ℕ)} → Standing running stream rest start printed → PrintsFront running.engine.text stream start printed
 standing_front {start = start} {printed = printed} s = inr (made_front s.made start s.blocks printed ([], sym (append-nil s.blocks)) s.told)
 
 module _ {running : Running} {stream rest start : List ℕ} {printed : Option (List ℕ)} {batch : Batch} (due : Due running stream rest start printed batch) where
-  due_prints : PrintsBlocks running.engine.text due.batches start printed
-  due_prints = record { trace = due.trace; run = oldest_run due.oldest due.stands; blocks = due.blocks; reported = due.reported; told = due.told }
+  abbrev due_prints : PrintsBlocks running.engine.text due.batches start printed
+  due_prints = record { trace = due.trace; run = called_run due.oldest due.keeps due.stands; blocks = due.blocks; reported = due.reported; told = due.told }
 
   -- the same where the batch has no cycle yet
   pub due_front : PrintsFront running.engine.text stream start printed
@@ -87,7 +93,7 @@ module _ {running : Running} {stream rest start : List ℕ} {printed : Option (L
     batches = due.batches;
     first = record { front = due.taken; rest = due.line ++ 10 ∷ (running.reader.left ++ rest); split = due.split; lines = due.lines; are = due.are };
     trace = due.trace;
-    run = oldest_run due.oldest due.stands;
+    run = called_run due.oldest due.keeps due.stands;
     blocks = due.blocks;
     reported = due.reported;
     ending = [];
@@ -130,12 +136,31 @@ module _ {running : Running} {stream rest start : List ℕ} {printed : Option (L
     prints = due_prints;
   }
 
+  -- the cycle of the batch exceeds a limit
+  due_full : (number : ℕ) (full : Fullness) → number ≡ running.engine.cycles + 1 → batch_fault running.engine.text number batch ≡ None → IsNotAdded running.engine batch.events (error.Full full) →
+      EndsFullNext running.engine.text stream start printed full
+  due_full number full is fine why = record {
+    batches = due.batches;
+    goes_on = record { line = due.line; lines = due.lines; next = next_line; batch = batch; is = fits number is fine };
+    cycle = why.0 ∙ sym is ∙ number_is number is;
+    events = why.1;
+    prints = due_prints;
+    next = subst (λ (p : Prefer). IsFullNext running.engine.text p kept_by_default due.batches due.trace full) due.oldest
+        (subst (λ n. IsFullNext running.engine.text running.engine.prefer n due.batches due.trace full) due.keeps (why.2 due.batches due.trace due.stands));
+  }
+
+  -- the cycle of the batch is not made
+  pub due_stopped : (number : ℕ) (why : EngineError) (source : Option Stream) → number ≡ running.engine.cycles + 1 → batch_fault running.engine.text number batch ≡ None → IsNotAdded running.engine batch.events why →
+      Stopped running.engine.text stream start printed source (stop_by why)
+  due_stopped number error.NoMemory source is fine why = due_front
+  due_stopped number (error.Full full) source is fine why = inr (due_full number full is fine why)
+
   -- the cycle of the batch is made
   pub due_made : BlocksStay → (new : Running) (number : ℕ) (cycle : Cycle) (block : List ℕ) → number ≡ running.engine.cycles + 1 → batch_fault running.engine.text number batch ≡ None →
-      new.engine.text ≡ running.engine.text → new.engine.prefer ≡ running.engine.prefer → new.reader ≡ running.reader → new.engine.cycles ≡ running.engine.cycles + 1 →
+      new.engine.text ≡ running.engine.text → new.engine.prefer ≡ running.engine.prefer → new.engine.keep ≡ running.engine.keep → new.reader ≡ running.reader → new.engine.cycles ≡ running.engine.cycles + 1 →
       ((batches : List (List Atom)) (trace : Trace) → Stands running.engine batches trace → Stands new.engine (batches ++ batch.events ∷ []) (then_cycle trace cycle)) →
       block ≡ block_text number (block_with new.engine cycle) → Made new stream rest (due.blocks ++ block)
-  due_made stay new number cycle block is fine text_is prefer_is reader_is count goes_on spelled =
+  due_made stay new number cycle block is fine text_is prefer_is keep_is reader_is count goes_on spelled =
       let text = running.engine.text in
       let batches = due.batches ++ batch.events ∷ [] in
       let trace = then_cycle due.trace cycle in
@@ -154,6 +179,7 @@ module _ {running : Running} {stream rest start : List ℕ} {printed : Option (L
         are = subst (λ (t : Text). AreWhole t (due.taken ++ (due.line ++ 10 ∷ [])) batches new.reader.lines) (sym text_is)
             (subst (λ n. AreWhole text (due.taken ++ (due.line ++ 10 ∷ [])) batches n) (sym (ap (λ (r : Reader). r.lines) reader_is ∙ due.place)) are);
         oldest = prefer_is ∙ due.oldest;
+        keeps = keep_is ∙ due.keeps;
         trace = trace;
         stands = stands;
         reported = reported;
@@ -181,9 +207,39 @@ block_printed text running stream rest blocks block bytes start before after sou
 
 -- ---- the start
 
+-- how a run ends that is not begun
+pub not_begun : (text : Text) (stream start : List ℕ) (printed : Option (List ℕ)) (source : Option Stream) (stop : Stop) → StopsFirst text stop → printed ≡ Some start → Stopped text stream start printed source stop
+not_begun text stream start printed source NoMemory why told = inl told
+not_begun text stream start printed source (Full full) why told = inl (why, told)
+not_begun text stream start printed source (Refused faulty) why told = absurd why
+not_begun text stream start printed source CycleLimit why told = absurd why
+not_begun text stream start printed source StreamLimit why told = absurd why
+not_begun text stream start printed source EventFault why told = absurd why
+not_begun text stream start printed source PrintFault why told = absurd why
+
+-- it reads nothing and prints nothing
+pub not_begun_counted : (text : Text) (stop : Stop) (reads prints : ℕ) → StopsFirst text stop → CountedAt stop reads reads prints prints
+not_begun_counted text NoMemory reads prints why = (refl, refl)
+not_begun_counted text (Full full) reads prints why = (refl, refl)
+not_begun_counted text (Refused faulty) reads prints why = absurd why
+not_begun_counted text CycleLimit reads prints why = absurd why
+not_begun_counted text StreamLimit reads prints why = absurd why
+not_begun_counted text EventFault reads prints why = absurd why
+not_begun_counted text PrintFault reads prints why = absurd why
+
+-- it is not for the limit of the stream
+pub not_begun_limit : (text : Text) (stop : Stop) (before : ℕ) → StopsFirst text stop → LimitAt 0 before before stop
+not_begun_limit text NoMemory before why = omega arith
+not_begun_limit text (Full full) before why = omega arith
+not_begun_limit text (Refused faulty) before why = absurd why
+not_begun_limit text CycleLimit before why = absurd why
+not_begun_limit text StreamLimit before why = absurd why
+not_begun_limit text EventFault before why = absurd why
+not_begun_limit text PrintFault before why = absurd why
+
 pub begun : (running : Running) (stream block : List ℕ) (cycle : Cycle) → running.reader ≡ record { left = []; lines = 0; bad = None } →
-    running.engine.prefer ≡ Oldest → Stands running.engine [] (first_trace running.engine.facts) → cycle ≡ no_cycle → block ≡ block_text 0 (block_with running.engine cycle) → Made running stream (ended stream) block
-begun running stream block cycle reader_is oldest stands none spelled =
+    running.engine.prefer ≡ Oldest → running.engine.keep ≡ kept_by_default → Stands running.engine [] (first_trace running.engine.facts) → cycle ≡ no_cycle → block ≡ block_text 0 (block_with running.engine cycle) → Made running stream (ended stream) block
+begun running stream block cycle reader_is oldest keeps stands none spelled =
     let engine = running.engine in
     record {
       fine = ap (λ (r : Reader). r.bad) reader_is;
@@ -192,6 +248,7 @@ begun running stream block cycle reader_is oldest stands none spelled =
       batches = [];
       are = subst (λ n. AreWhole engine.text [] [] n) (sym (ap (λ (r : Reader). r.lines) reader_is)) judged.none;
       oldest = oldest;
+      keeps = keeps;
       trace = first_trace engine.facts;
       stands = stands;
       reported = block_first engine block stands (spelled ∙ ap (λ (c : Cycle). block_text 0 (block_with engine c)) none);
@@ -222,6 +279,7 @@ module _ (engine : EngineState) (old new : Reader) {stream rest start : List ℕ
       batches = s.made.batches;
       are = subst (λ k. AreWhole engine.text (s.made.taken ++ n.ahead.front) s.made.batches k) (let e : n.passed + old.lines ≡ new.lines = omega (arith, n.lines) in e) (past n.ahead);
       oldest = s.made.oldest;
+      keeps = s.made.keeps;
       trace = s.made.trace;
       stands = s.made.stands;
       reported = s.made.reported;
@@ -241,6 +299,7 @@ module _ (engine : EngineState) (old new : Reader) {stream rest start : List ℕ
     place = omega (arith, t.lines);
     is = t.is;
     oldest = s.made.oldest;
+    keeps = s.made.keeps;
     trace = s.made.trace;
     stands = s.made.stands;
     blocks = s.blocks;
@@ -288,6 +347,7 @@ piece_fed running new stream piece rest start printed s engine_is reader_is =
         batches = s.made.batches;
         are = s.made.are;
         oldest = s.made.oldest;
+        keeps = s.made.keeps;
         trace = s.made.trace;
         stands = s.made.stands;
         reported = s.made.reported;
@@ -310,7 +370,7 @@ module _ (engine : EngineState) (old new : Reader) {stream start : List ℕ} {pr
         batches = s.made.batches;
         sound = (suc (n.passed + old.lines), subst (λ (bs : List ℕ). AreWhole engine.text bs s.made.batches (suc (n.passed + old.lines))) (sym split) are);
         prints = made_prints s.made start printed s.told;
-        counts = s.made.stands.counts;
+        counts = s.made.stands.carries.counts;
       }
 
   pub last_due : (batch : Batch) → TakesLast old batch new → Due (record { engine = engine; reader = new }) stream [] start printed batch
@@ -325,6 +385,7 @@ module _ (engine : EngineState) (old new : Reader) {stream start : List ℕ} {pr
     place = ap (λ (r : Reader). r.lines) t.same ∙ (let e : old.lines + t.passed + 1 ≡ suc (t.passed + old.lines) = omega arith in e);
     is = t.is;
     oldest = s.made.oldest;
+    keeps = s.made.keeps;
     trace = s.made.trace;
     stands = s.made.stands;
     blocks = s.blocks;
@@ -345,7 +406,7 @@ all_taken running stream start printed s none =
       batches = s.made.batches;
       sound = (running.reader.lines, subst (λ (bs : List ℕ). AreWhole running.engine.text bs s.made.batches running.reader.lines) split s.made.are);
       prints = made_prints s.made start printed s.told;
-      counts = s.made.stands.counts;
+      counts = s.made.stands.carries.counts;
     }
 
 -- the counts after a print
@@ -360,6 +421,7 @@ counted_behind (Ok x) reads reads' before mid after same kept kind h = (same, h.
 counted_behind (Err NoMemory) reads reads' before mid after same kept kind h = (same, h.1 ∙ kept)
 counted_behind (Err (Refused line)) reads reads' before mid after same kept kind h = (same, h.1 ∙ kept)
 counted_behind (Err CycleLimit) reads reads' before mid after same kept kind h = (same, h.1 ∙ kept)
+counted_behind (Err (Full full)) reads reads' before mid after same kept kind h = (same, h.1 ∙ kept)
 counted_behind (Err PrintFault) reads reads' before mid after same kept kind h = (same, subst (λ n. Rose n after) kept h.1)
 counted_behind (Err StreamLimit) reads reads' before mid after same kept kind h = absurd kind
 counted_behind (Err EventFault) reads reads' before mid after same kept kind h = absurd kind

@@ -8,7 +8,7 @@ use Rattle.lps_terms.specs.declared.text.Text.{Text}
 use Rattle.lps_terms.specs.declared.text_refused.TextRefused.TheVariants as reason
 use Rattle.lps_outside.specs.Bytes.{Stream}
 use Rattle.lps_run.specs.declared.stop.Stop.{Stop}
-use Rattle.lps_run.specs.declared.stop.Stop.TheVariants.{NoMemory, Refused, CycleLimit, StreamLimit, EventFault, PrintFault}
+use Rattle.lps_run.specs.declared.stop.Stop.TheVariants.{NoMemory, Refused, CycleLimit, Full, StreamLimit, EventFault, PrintFault}
 use Rattle.lps_run.specs.declared.answer.Answer.{Answer}
 use Rattle.lps_run.specs.declared.answer.Answer.TheVariants as answers
 use Rattle.lps_run.specs.Stopping.{Reported, Stopped, Counted, LimitIs, KeepsLimit}
@@ -47,6 +47,7 @@ answered all text stream start printed source (Ok counts) is h = whole_answered 
 answered all text stream start printed source (Err NoMemory) is h = inr (text, is, h)
 answered all text stream start printed source (Err (Refused faulty)) is h = (text, is, h)
 answered all text stream start printed source (Err CycleLimit) is h = (text, is, h)
+answered all text stream start printed source (Err (Full full)) is h = (text, is, h)
 answered all text stream start printed source (Err StreamLimit) is h = (text, is, h.0, h.1)
 answered all text stream start printed source (Err EventFault) is h = (text, is, h)
 answered all text stream start printed source (Err PrintFault) is h = (text, is, h)
@@ -56,6 +57,7 @@ run_caused faults reads reads' prints prints' (Ok counts) c = by_either (λ answ
 run_caused faults reads reads' prints prints' (Err NoMemory) c = (refl, c.0, c.1)
 run_caused faults reads reads' prints prints' (Err (Refused line)) c = (refl, c.0, c.1)
 run_caused faults reads reads' prints prints' (Err CycleLimit) c = (refl, c.0, c.1)
+run_caused faults reads reads' prints prints' (Err (Full full)) c = (refl, c.0, c.1)
 run_caused faults reads reads' prints prints' (Err StreamLimit) c = (refl, c.0, c.1)
 run_caused faults reads reads' prints prints' (Err EventFault) c = (refl, c.0, c.1)
 run_caused faults reads reads' prints prints' (Err PrintFault) c = (refl, c.0, c.1)
@@ -65,6 +67,7 @@ run_no_usage (Ok counts) = by_either IsNoUsage counts tt tt
 run_no_usage (Err NoMemory) = tt
 run_no_usage (Err (Refused line)) = tt
 run_no_usage (Err CycleLimit) = tt
+run_no_usage (Err (Full full)) = tt
 run_no_usage (Err StreamLimit) = tt
 run_no_usage (Err EventFault) = tt
 run_no_usage (Err PrintFault) = tt
@@ -74,6 +77,7 @@ run_speaks (Ok counts) h = by_either (λ answer. IsSilent answer → ⊥) counts
 run_speaks (Err NoMemory) h = h
 run_speaks (Err (Refused line)) h = h
 run_speaks (Err CycleLimit) h = h
+run_speaks (Err (Full full)) h = h
 run_speaks (Err StreamLimit) h = h
 run_speaks (Err EventFault) h = h
 run_speaks (Err PrintFault) h = h
@@ -84,6 +88,7 @@ limit_of before after (Ok counts) h =
 limit_of before after (Err NoMemory) h = ((λ e. absurd cc), (λ over. absurd (omega arith)))
 limit_of before after (Err (Refused line)) h = ((λ e. absurd cc), (λ over. absurd (omega arith)))
 limit_of before after (Err CycleLimit) h = ((λ e. absurd cc), (λ over. absurd (omega arith)))
+limit_of before after (Err (Full full)) h = ((λ e. absurd cc), (λ over. absurd (omega arith)))
 limit_of before after (Err StreamLimit) h = ((λ e. omega arith), (λ over. refl))
 limit_of before after (Err EventFault) h = ((λ e. absurd cc), (λ over. absurd (omega arith)))
 limit_of before after (Err PrintFault) h = ((λ e. absurd cc), (λ over. absurd (omega arith)))
@@ -110,6 +115,7 @@ early_no_usage answers.Done h = tt
 early_no_usage (answers.Unfinished counts) h = tt
 early_no_usage answers.Checked h = tt
 early_no_usage answers.CycleLimit h = tt
+early_no_usage (answers.Full full) h = tt
 early_no_usage (answers.Usage kind) h = h
 early_no_usage (answers.BatchRefused line kind) h = tt
 early_no_usage answers.StreamLimit h = tt
@@ -130,6 +136,7 @@ early_answered all stream start printed source answers.Checked h told = absurd h
 early_answered all stream start printed source (answers.Usage u) h told = absurd h
 early_answered all stream start printed source (answers.BatchRefused line k) h told = absurd h
 early_answered all stream start printed source answers.CycleLimit h told = absurd h
+early_answered all stream start printed source (answers.Full full) h told = absurd h
 early_answered all stream start printed source answers.StreamLimit h told = absurd h
 early_answered all stream start printed source answers.EventFault h told = absurd h
 early_answered all stream start printed source answers.PrintFault h told = absurd h
@@ -146,6 +153,7 @@ early_checked all start printed answers.Checked h told = absurd h
 early_checked all start printed (answers.Usage u) h told = absurd h
 early_checked all start printed (answers.BatchRefused line k) h told = absurd h
 early_checked all start printed answers.CycleLimit h told = absurd h
+early_checked all start printed (answers.Full full) h told = absurd h
 early_checked all start printed answers.StreamLimit h told = absurd h
 early_checked all start printed answers.EventFault h told = absurd h
 early_checked all start printed answers.PrintFault h told = absurd h
@@ -159,6 +167,7 @@ early_caused answers.Done texts texts' reads prints kind c = absurd kind
 early_caused (answers.Unfinished counts) texts texts' reads prints kind c = absurd kind
 early_caused answers.Checked texts texts' reads prints kind c = absurd kind
 early_caused answers.CycleLimit texts texts' reads prints kind c = absurd kind
+early_caused (answers.Full full) texts texts' reads prints kind c = absurd kind
 early_caused (answers.Usage u) texts texts' reads prints kind c = absurd kind
 early_caused (answers.BatchRefused line k) texts texts' reads prints kind c = absurd kind
 early_caused answers.StreamLimit texts texts' reads prints kind c = absurd kind

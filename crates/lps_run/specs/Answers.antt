@@ -12,11 +12,11 @@ use Rattle.lps_reader.specs.Texts.{IsTextOf}
 use Rattle.lps_outside.specs.Bytes.{IsFront, Stream}
 use Rattle.lps_outside.specs.Causes.{Rose}
 use Rattle.lps_run.specs.Built.{not_built}
-use Rattle.lps_run.specs.Stopping.{PrintsFront, Reported, EndsAtLimit, EndsAtLine, EndsAtRead}
+use Rattle.lps_run.specs.Stopping.{PrintsFront, Reported, EndsAtLimit, EndsAtLine, EndsAtRead, EndsFull}
 use Rattle.lps_run.specs.declared.stop.Stop.{Stop}
 use Rattle.lps_run.specs.declared.stop.Stop.TheVariants as stops
 use Rattle.lps_run.specs.declared.answer.Answer.{Answer}
-use Rattle.lps_run.specs.declared.answer.Answer.TheVariants.{Done, Unfinished, Checked, Usage, TextRefused, BatchRefused, CycleLimit, StreamLimit, TextFault, EventFault, PrintFault, NoMemory}
+use Rattle.lps_run.specs.declared.answer.Answer.TheVariants.{Done, Unfinished, Checked, Usage, TextRefused, BatchRefused, CycleLimit, Full, StreamLimit, TextFault, EventFault, PrintFault, NoMemory}
 
 -- the exit code
 abbrev pub code_of : Answer → ℕ
@@ -27,6 +27,7 @@ code_of (Usage kind) = 2
 code_of (TextRefused reason) = 3
 code_of (BatchRefused line kind) = 4
 code_of CycleLimit = 6
+code_of (Full full) = 6
 code_of StreamLimit = 6
 code_of TextFault = 7
 code_of EventFault = 7
@@ -50,6 +51,7 @@ answer_to (Ok counts) = answer_with counts
 answer_to (Err stops.NoMemory) = NoMemory
 answer_to (Err (stops.Refused faulty)) = BatchRefused faulty.line faulty.kind
 answer_to (Err stops.CycleLimit) = CycleLimit
+answer_to (Err (stops.Full full)) = Full full
 answer_to (Err stops.StreamLimit) = StreamLimit
 answer_to (Err stops.EventFault) = EventFault
 answer_to (Err stops.PrintFault) = PrintFault
@@ -86,6 +88,7 @@ Answered all stream start printed source (Usage kind) = ⊥
 Answered all stream start printed source (TextRefused reason) = IsRefusedRun all reason × (printed ≡ Some start)
 Answered all stream start printed source (BatchRefused line kind) = (text : Text) × IsRunText all text × EndsAtLine text stream start printed (record { line = line; kind = kind })
 Answered all stream start printed source CycleLimit = (text : Text) × IsRunText all text × EndsAtLimit text stream start printed
+Answered all stream start printed source (Full full) = (text : Text) × IsRunText all text × EndsFull text stream start printed full
 Answered all stream start printed source StreamLimit = (text : Text) × IsRunText all text × (last : List ℕ) × EndsAtRead text stream start printed source last
 Answered all stream start printed source TextFault = printed ≡ Some start
 Answered all stream start printed source EventFault = (text : Text) × IsRunText all text × EndsAtRead text stream start printed source []

@@ -11,7 +11,7 @@ use Rattle.lps_run.specs.declared.stream.Running.{Running}
 use Rattle.lps_cycle.specs.Engine.{Stands, counts_of}
 use Rattle.lps_run.specs.Judged.{AreWhole, IsSound, ended}
 use Rattle.lps_run.specs.Reporting.{AreAllBlocks, AreCountsOf}
-use Rattle.lps_run.specs.Stopping.{PrintsBlocks}
+use Rattle.lps_run.specs.Stopping.{PrintsBlocks, kept_by_default}
 
 -- Whole lines of the stream are taken, some bytes after them are fed to the reader, and `rest` is what follows. The run over
 -- the batches of these lines stands as the engine says, and has these blocks.
@@ -22,6 +22,7 @@ pub record Made (running : Running) (stream rest blocks : List ℕ) : Type 0 whe
   pub batches : List (List Atom)
   pub are : AreWhole running.engine.text taken batches running.reader.lines
   pub oldest : running.engine.prefer ≡ Oldest
+  pub keeps : running.engine.keep ≡ kept_by_default
   pub trace : Trace
   pub stands : Stands running.engine batches trace
   pub reported : AreAllBlocks running.engine.text trace blocks
@@ -44,6 +45,7 @@ pub record Due (running : Running) (stream rest start : List ℕ) (printed : Opt
   pub place : running.reader.lines ≡ suc lines
   pub is : IsBatchLine line batch
   pub oldest : running.engine.prefer ≡ Oldest
+  pub keeps : running.engine.keep ≡ kept_by_default
   pub trace : Trace
   pub stands : Stands running.engine batches trace
   pub blocks : List ℕ

@@ -1,24 +1,36 @@
 -- How a run ends, and what is printed then.
-use Rattle.std.specs.Prelude.{◌≡◌, ◌⊎◌, ℕ, ◌+◌, ◌^◌, ◌<◌, ◌≤◌, List, [], ◌++◌, length, Option, Some, Result, Ok, Err}
+use Rattle.std.specs.Prelude.{◌≡◌, ◌⊎◌, ℕ, ◌+◌, ◌^◌, ◌<◌, ◌≤◌, suc, List, [], ◌++◌, length, Option, Some, Result, Ok, Err}
 use Rattle.lps_terms.specs.declared.atom.Atom.{Atom}
 use Rattle.lps_terms.specs.declared.prefer.Prefer.TheVariants.{Oldest}
 use Rattle.lps_terms.specs.declared.text.Text.{Text}
 use Rattle.lps_model.specs.declared.trace.Trace.{Trace}
 use Rattle.lps_meaning.specs.declared.goal.Counts.{Counts}
-use Rattle.lps_cycle.specs.Engine.{IsRunOver}
+use Rattle.lps_cycle.specs.declared.error.EngineError.{EngineError}
+use Rattle.lps_cycle.specs.declared.error.EngineError.TheVariants as error
+use Rattle.lps_cycle.specs.Engine.{IsFullFirst, IsFullNext, IsRunOver, IsWithinAll}
+use Rattle.lps_limits.specs.declared.full.Full.{Full as Fullness}
 use Rattle.lps_batches.specs.declared.batch_bad.BatchBad.{BatchBad}
 use Rattle.lps_batches.specs.LinesAhead.{IsLine}
 use Rattle.lps_outside.specs.Bytes.{IsFront, Stream}
 use Rattle.lps_outside.specs.Causes.{Rose}
 use Rattle.lps_run.specs.declared.stop.Stop.{Stop}
-use Rattle.lps_run.specs.declared.stop.Stop.TheVariants.{NoMemory, Refused, CycleLimit, StreamLimit, EventFault, PrintFault}
+use Rattle.lps_run.specs.declared.stop.Stop.TheVariants.{NoMemory, Refused, CycleLimit, Full, StreamLimit, EventFault, PrintFault}
 use Rattle.lps_run.specs.Judged.{AreWhole, GoesOn, HasFirst, IsFirstFaulty, IsSound}
 use Rattle.lps_run.specs.Reporting.{AreAllBlocks, IsLastLine, IsWholeReport}
+
+-- how many symbols may be kept
+abbrev pub kept_by_default : ℕ
+kept_by_default = 1000000
+
+-- the trace is the run over these batches in which the oldest goals are preferred, and no limit is exceeded on the way
+pub record IsRun (text : Text) (batches : List (List Atom)) (trace : Trace) : Type 0 where
+  pub plain : IsRunOver text Oldest batches trace
+  pub within : IsWithinAll text kept_by_default trace
 
 -- what was printed since `start` are exactly the blocks of the run over these batches
 pub record PrintsBlocks (text : Text) (batches : List (List Atom)) (start : List ℕ) (printed : Option (List ℕ)) : Type 0 where
   pub trace : Trace
-  pub run : IsRunOver text Oldest batches trace
+  pub run : IsRun text batches trace
   pub blocks : List ℕ
   pub reported : AreAllBlocks text trace blocks
   pub told : printed ≡ Some (start ++ blocks)
@@ -33,7 +45,7 @@ pub record PrintsRunFront (text : Text) (stream start : List ℕ) (printed : Opt
   pub batches : List (List Atom)
   pub first : HasFirst text stream batches
   pub trace : Trace
-  pub run : IsRunOver text Oldest batches trace
+  pub run : IsRun text batches trace
   pub blocks : List ℕ
   pub reported : AreAllBlocks text trace blocks
   pub ending : List ℕ
@@ -55,7 +67,7 @@ pub record Reported (text : Text) (stream start : List ℕ) (printed : Option (L
   pub batches : List (List Atom)
   pub sound : IsSound text stream batches
   pub trace : Trace
-  pub run : IsRunOver text Oldest batches trace
+  pub run : IsRun text batches trace
   pub report : List ℕ
   pub reported : IsWholeReport text trace counts report
   pub told : printed ≡ Some (start ++ report)
@@ -87,11 +99,37 @@ pub record EndsAtLimit (text : Text) (stream start : List ℕ) (printed : Option
   pub goes_on : GoesOn text stream batches
   pub prints : PrintsBlocks text batches start printed
 
+-- A limit is exceeded with the cycle of the next batch, which is the one that was tried. What was printed since `start` are exactly the
+-- blocks of the run over the batches before.
+pub record EndsFullNext (text : Text) (stream start : List ℕ) (printed : Option (List ℕ)) (full : Fullness) : Type 0 where
+  pub batches : List (List Atom)
+  pub goes_on : GoesOn text stream batches
+  pub cycle : full.cycle ≡ suc (length batches)
+  pub events : full.tried.events ≡ goes_on.batch.events
+  pub prints : PrintsBlocks text batches start printed
+  pub next : IsFullNext text Oldest kept_by_default batches prints.trace full
+
+-- a limit is exceeded before any cycle, and nothing is printed, or it is exceeded with the cycle of the next batch
+abbrev pub EndsFull : Text → List ℕ → List ℕ → Option (List ℕ) → Fullness → Type 0
+EndsFull text stream start printed full = (IsFullFirst text kept_by_default full × (printed ≡ Some start)) ⊎ EndsFullNext text stream start printed full
+
+-- why a run ended that was not begun or did not go on
+abbrev pub stop_by : EngineError → Stop
+stop_by error.NoMemory = NoMemory
+stop_by (error.Full full) = Full full
+
+-- why a run is not begun
+abbrev pub StopsFirst : Text → Stop → Type 0
+StopsFirst text NoMemory = Unit {0}
+StopsFirst text (Full full) = IsFullFirst text kept_by_default full
+StopsFirst text other = ⊥
+
 -- how a run stands that ended early
 abbrev pub Stopped : Text → List ℕ → List ℕ → Option (List ℕ) → Option Stream → Stop → Type 0
 Stopped text stream start printed source NoMemory = PrintsFront text stream start printed
 Stopped text stream start printed source (Refused faulty) = EndsAtLine text stream start printed faulty
 Stopped text stream start printed source CycleLimit = EndsAtLimit text stream start printed
+Stopped text stream start printed source (Full full) = EndsFull text stream start printed full
 Stopped text stream start printed source StreamLimit = (last : List ℕ) × EndsAtRead text stream start printed source last
 Stopped text stream start printed source EventFault = EndsAtRead text stream start printed source []
 Stopped text stream start printed source PrintFault = PrintsFront text stream start printed
@@ -101,6 +139,7 @@ abbrev pub StopsAtLine : Stop → Type 0
 StopsAtLine NoMemory = Unit {0}
 StopsAtLine (Refused faulty) = Unit {0}
 StopsAtLine CycleLimit = Unit {0}
+StopsAtLine (Full full) = Unit {0}
 StopsAtLine PrintFault = Unit {0}
 StopsAtLine StreamLimit = ⊥
 StopsAtLine EventFault = ⊥
@@ -111,6 +150,7 @@ CountedAt EventFault reads reads' prints prints' = Rose reads reads' × (prints'
 CountedAt PrintFault reads reads' prints prints' = (reads' ≡ reads) × Rose prints prints'
 CountedAt NoMemory reads reads' prints prints' = (reads' ≡ reads) × (prints' ≡ prints)
 CountedAt (Refused faulty) reads reads' prints prints' = (reads' ≡ reads) × (prints' ≡ prints)
+CountedAt (Full full) reads reads' prints prints' = (reads' ≡ reads) × (prints' ≡ prints)
 CountedAt CycleLimit reads reads' prints prints' = (reads' ≡ reads) × (prints' ≡ prints)
 CountedAt StreamLimit reads reads' prints prints' = (reads' ≡ reads) × (prints' ≡ prints)
 

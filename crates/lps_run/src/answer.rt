@@ -2,6 +2,7 @@ ghost use Rattle.std.specs.Prelude.{◌≡◌};
 ghost use Rattle.lps_run.specs.Answers.{answer_to, answer_with as answer_with_of, code_of};
 
 use crate::stop::Stop;
+use lps_limits::Full;
 use lps_meaning::Counts;
 use lps_reader::BatchBad;
 use lps_terms::{BatchKind, TextRefused};
@@ -30,6 +31,9 @@ pub enum Answer {
     BatchRefused { line: u64, kind: BatchKind },
     /// The run has as many cycles as a run may have, and one more batch came.
     CycleLimit,
+    /// The state, what is kept from cycle to cycle, or the log would have more symbols than it may have; the blocks of the cycles before
+    /// the one that was tried are printed.
+    Full(Full),
     /// More bytes were taken than a stream may have.
     StreamLimit,
     TextFault,
@@ -51,6 +55,7 @@ impl Answer {
             Answer::TextRefused(_) => 3,
             Answer::BatchRefused { line: _, kind: _ } => 4,
             Answer::CycleLimit => 6,
+            Answer::Full(_) => 6,
             Answer::StreamLimit => 6,
             Answer::TextFault => 7,
             Answer::EventFault => 7,
@@ -77,6 +82,7 @@ impl fmt::Display for Answer {
             Answer::TextRefused(reason) => write!(f, "{reason}"),
             Answer::BatchRefused { line, kind } => write!(f, "batch line {line}: {kind}"),
             Answer::CycleLimit => write!(f, "cycle limit"),
+            Answer::Full(full) => write!(f, "{full}"),
             Answer::StreamLimit => write!(f, "stream limit"),
             Answer::TextFault => write!(f, "text fault"),
             Answer::EventFault => write!(f, "event fault"),
@@ -106,6 +112,7 @@ pub fn answer_of(run: Result<Counts, Stop>) -> Answer
         Err(Stop::NoMemory) => Answer::NoMemory,
         Err(Stop::Refused(BatchBad { line, kind })) => Answer::BatchRefused { line, kind },
         Err(Stop::CycleLimit) => Answer::CycleLimit,
+        Err(Stop::Full(full)) => Answer::Full(full),
         Err(Stop::StreamLimit) => Answer::StreamLimit,
         Err(Stop::EventFault) => Answer::EventFault,
         Err(Stop::PrintFault) => Answer::PrintFault,

@@ -3,7 +3,9 @@ ghost use Rattle.std.specs.Prelude.{◌≡◌, ℕ, List, Option, length};
 ghost use Rattle.lps_terms.specs.declared.atom.Atom.{Atom};
 ghost use Rattle.lps_terms.specs.declared.text.Text.{Text};
 ghost use Rattle.lps_batches.specs.declared.batch_bad.BatchBad.{BatchBad};
+ghost use Rattle.lps_model.specs.declared.trace.Trace.{Trace};
 ghost use Rattle.lps_model.specs.Clauses.{clauses};
+ghost use Rattle.lps_limits.specs.declared.full.Full.{Full as Fullness};
 ghost use Rattle.lps_derivation.specs.Levels.{AreLevels};
 ghost use Rattle.lps_meaning.specs.declared.goal.Counts.{Counts};
 ghost use Rattle.lps_meaning.specs.Goals.{IsRuleTrue};
@@ -11,7 +13,7 @@ ghost use Rattle.lps_cycle.specs.Engine.{ByLevels};
 ghost use Rattle.lps_outside.specs.Bytes.{Stream};
 ghost use Rattle.lps_run.specs.Answers.{none_open};
 ghost use Rattle.lps_run.specs.Judged.{IsFirstFaulty, IsSound};
-ghost use Rattle.lps_run.specs.Stopping.{Reported};
+ghost use Rattle.lps_run.specs.Stopping.{EndsFullNext, IsRun, Reported};
 
 use lps_meaning::plain_law;
 use lps_statuses::rule_law;
@@ -28,6 +30,15 @@ pub fn streams_are_judged_one_way()
 pub fn reports_are_counted_one_way()
     ensures same { (text : Text) (level : List ℕ → ℕ) → AreLevels (clauses text) level → (stream start other : List ℕ) (printed shown : Option (List ℕ)) (source ended : Option Stream) (a b : Counts) →
         Reported text stream start printed source a → Reported text stream other shown ended b → a ≡ b }
+{
+    plain_law();
+}
+
+/// A run that ends at a limit is not one of the whole stream: no run of the text over all batches of the stream stays within its limits. So
+/// `Full` excludes `Done` and `Unfinished`.
+pub fn runs_end_at_limits()
+    ensures { (text : Text) (level : List ℕ → ℕ) → AreLevels (clauses text) level → (stream start : List ℕ) (printed : Option (List ℕ)) (full : Fullness) → EndsFullNext text stream start printed full →
+        (batches : List (List Atom)) (trace : Trace) → IsSound text stream batches → IsRun text batches trace → ⊥ }
 {
     plain_law();
 }

@@ -6,7 +6,8 @@
 //! stand here as private modules. It carries the headline: the clauses `told` and `checked` of `lps` say for each answer what was
 //! printed, in the words of the definitions, and clauses `usage`, `unread`, `limit`, `silent` and `caused` say when each answer
 //! comes; a stream is judged in one way (`streams_are_judged_one_way`), the goals of a run are counted in one way
-//! (`reports_are_counted_one_way`), and a run that is `Done` makes every rule true (`finished_runs_make_rules_true`).
+//! (`reports_are_counted_one_way`), a run that ends at a limit is none of the whole stream (`runs_end_at_limits`), and one that is
+//! `Done` makes every rule true (`finished_runs_make_rules_true`).
 #![tactic(auto)]
 
 mod answer;
@@ -21,6 +22,7 @@ mod words;
 
 pub use answer::{Answer, UsageKind};
 pub use laws::{
-    finished_runs_make_rules_true, reports_are_counted_one_way, streams_are_judged_one_way,
+    finished_runs_make_rules_true, reports_are_counted_one_way, runs_end_at_limits,
+    streams_are_judged_one_way,
 };
 pub use top::lps;

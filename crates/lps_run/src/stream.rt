@@ -5,12 +5,13 @@ ghost use Rattle.lps_goaltrees.specs.Followed.{AreCallFree};
 ghost use Rattle.lps_cycle.specs.Engine.{IsOfRun, block_with};
 ghost use Rattle.lps_outside.specs.Bytes.{Stream, Appends, AppendsFront, Takes, TakesNothing};
 ghost use Rattle.lps_outside.specs.Causes.{Rose};
-ghost use Rattle.lps_run.specs.Stopping.{Counted, Reported, StopsAtLine, Stopped, TakesWithin, KeepsLimit};
+ghost use Rattle.lps_run.specs.Stopping.{Counted, Reported, StopsAtLine, StopsFirst, Stopped, TakesWithin, KeepsLimit, kept_by_default};
 
 use crate::batch::batch_fault;
 use crate::stop::Stop;
 use lps_cycle::Engine;
 use lps_formed::read_events_are_ground;
+use lps_limits::KEPT_BY_DEFAULT;
 use lps_meaning::{Counts, report_law};
 use lps_model::{Accepted, Batch, Cycle};
 use lps_outside::{Desk, Source};
@@ -102,14 +103,16 @@ impl Running {
     ghost use Rattle.lps_run.specs.Running.{Due, Standing, Reading, Finished};
 
     /// The run of no cycles, and nothing of a stream.
-    fn new(alloc: Global, text: Accepted) -> Result<Box<Running>, AllocError>
+    fn new(alloc: Global, text: Accepted) -> Result<Box<Running>, Stop>
         requires { AreCallFree text }
         ensures text { IfOk result (λ running. running.value.engine.text ≡ text) }
         ensures empty { IfOk result (λ running. running.value.reader ≡ record { left = []; lines = 0; bad = None }) }
         ensures oldest { IfOk result (λ running. running.value.engine.prefer ≡ Oldest) }
+        ensures keeps { IfOk result (λ running. running.value.engine.keep ≡ kept_by_default) }
         ensures stands { IfOk result (λ running. Stands running.value.engine [] (first_trace running.value.engine.facts)) }
+        ensures ended { IfErr result (StopsFirst text) }
     {
-        let engine = Engine::start(alloc, text, Prefer::Oldest)?;
+        let engine = Engine::start(alloc, text, Prefer::Oldest, KEPT_BY_DEFAULT)?;
         let running = Running {
             engine,
             reader: BatchReader::new(alloc),
@@ -121,6 +124,7 @@ impl Running {
     fn begin<D: Desk>(&self, alloc: Global, desk: &mut D) -> Result<(), Stop>
         requires empty { self.now.reader ≡ record { left = []; lines = 0; bad = None } }
         requires oldest { self.now.engine.prefer ≡ Oldest }
+        requires keeps { self.now.engine.keep ≡ kept_by_default }
         requires stands { Stands self.now.engine [] (first_trace self.now.engine.facts) }
         ensures told { (stream start : List ℕ) (source : Option Stream) → D.printed desk.old ≡ Some start →
             MatchResult result (λ _. Standing self.now stream (ended stream) start (D.printed desk.new))
@@ -303,6 +307,7 @@ impl Running {
     ) -> Result<Counts, Stop>
         requires empty { self.old.reader ≡ record { left = []; lines = 0; bad = None } }
         requires oldest { self.old.engine.prefer ≡ Oldest }
+        requires keeps { self.old.engine.keep ≡ kept_by_default }
         requires stands { Stands self.old.engine [] (first_trace self.old.engine.facts) }
         ensures limit { (before : Stream) → E.stream events.old ≡ Some before → KeepsLimit before result (E.stream events.new) }
         ensures told { (before : Stream) (start : List ℕ) → E.stream events.old ≡ Some before → D.printed desk.old ≡ Some start →

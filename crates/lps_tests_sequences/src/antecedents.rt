@@ -4,7 +4,7 @@ ghost use Rattle.std.specs.List.{AllByRecursion};
 ghost use Rattle.lps_terms.specs.declared.atom.Atom.{Atom as Fact};
 ghost use Rattle.lps_facts.specs.Facts.{members};
 ghost use Rattle.lps_solve.specs.Met.{AreGround};
-ghost use Rattle.lps_antecedents.specs.Waiting.{AreReady};
+ghost use Rattle.lps_antecedents.specs.Waiting.{IsReadyWaiting};
 
 use lps_antecedents::Waiting;
 use lps_facts::Facts;
@@ -125,7 +125,7 @@ fn ground_facts(alloc: Global, list: &str) -> Result<Facts, Fail>
 
 /// What waits in a state, and the keys of the antecedents that are true in it.
 fn started(alloc: Global, program: &Program, facts: &str) -> Result<(Waiting, Vec<GoalKey>), Fail>
-    ensures { IfOk result (λ started. AreReady program.now started.0.held) }
+    ensures { IfOk result (λ started. IsReadyWaiting program.now started.0) }
 {
     let facts = ground_facts(alloc, facts)?;
     let mut bindings = Bindings::new(alloc, 0)?;
@@ -141,8 +141,8 @@ fn advance(
     facts: &str,
     events: &str,
 ) -> Result<Vec<GoalKey>, Fail>
-    requires { AreReady program.now waiting.old.held }
-    ensures { AreReady program.now waiting.new.held }
+    requires { IsReadyWaiting program.now waiting.old }
+    ensures { IsReadyWaiting program.now waiting.new }
 {
     if time < 1 || time > 1000000 {
         return Err(Fail::from("no time"));
@@ -186,7 +186,7 @@ fn check(
     count: usize,
     text: &str,
 ) -> Result<(), Fail> {
-    assert_eq!(rt; waiting.held().len(), count, "what waits");
+    assert_eq!(rt; waiting.held(alloc)?.len(), count, "what waits");
     let keys = told(alloc, keys)?;
     assert_eq!(rt; keys.as_slice(), text.as_bytes(), "keys");
     Ok(())
@@ -200,7 +200,7 @@ fn check_later(
     waiting: &mut Waiting,
     later: &[Cycle],
 ) -> Result<(), Fail>
-    requires { AreReady program.now waiting.old.held }
+    requires { IsReadyWaiting program.now waiting.old }
 {
     let mut time = 0u64;
     for (facts, events, count, keys) in later {

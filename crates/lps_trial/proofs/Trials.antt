@@ -21,6 +21,7 @@ use Rattle.lps_causal.specs.Names.{AreEvents, AreFluents, IsFluent}
 use Rattle.lps_causal.specs.Next.{AreBegun, IsAfter, IsUpdate}
 use Rattle.lps_causal.proofs.Merging.{after_has_fluents, after_more, after_none, after_once, after_same, begun_more, begun_none, ended_more, ended_none, fluents_after, is_update}
 use Rattle.lps_causal.proofs.Settled.{kept_is}
+use Rattle.lps_solve.proofs.Accepted.{accepted_is_sound}
 use Rattle.lps_solve.proofs.Facts.{among_contains, contains_among}
 use Rattle.lps_precond.specs.Stages.{AreNews, ViolateNone}
 use Rattle.lps_precond.proofs.Happened.{with_events}
@@ -270,3 +271,30 @@ module _ (text : Text) (accepted : IsAccepted text) (formed : is_formed text ≡
     allowed = λ accepted formed.
         subst (λ (set : TrailedSet). ViolateNone text (members set) (members state) (members next)) (sym none) (nothing_violated text accepted formed (members state) (members next));
   }
+
+-- ---- what is new in the state after
+
+module _ (text : Text) (accepted : IsAccepted text) (formed : is_formed text ≡ true) (trial : TrialState) (is : IsGrown text trial) where
+  some_levels : (level : List ℕ → ℕ) × AreLevels (clauses text) level
+  some_levels = let sound = accepted_is_sound text accepted formed [] (λ a there. absurd (nothing_contained a there)) in (sound.level, sound.levels)
+
+  abbrev new_facts : List Atom
+  new_facts = filter (λ a. not (is_among (members trial.state) a)) (members trial.begun)
+
+  pub new_or_old : (a : Atom) → Contains (members trial.next) a → Contains (members trial.state) a ⊎ Contains new_facts a
+  new_or_old a there =
+      let l = some_levels in
+      elim (((is.next_is l.0 l.1).exact a).0 there) [
+        | inl begins ↦ by (is_among (members trial.state) a) refl ((is.begun_are l.0 l.1 a).1 begins)
+        | inr was ↦ inl was.0
+      ]
+    where
+      by : (old : Bool) → is_among (members trial.state) a ≡ old → Contains (members trial.begun) a → Contains (members trial.state) a ⊎ Contains new_facts a
+      by true e begins = inl (contains_among a (members trial.state) e)
+      by false e begins = inr ((kept_is (members trial.state) (members trial.begun) a).1 (begins, λ was. let none : true ≡ false = sym (among_contains a (members trial.state) was) ∙ e in cc))
+
+  pub new_only : (a : Atom) → Contains new_facts a → Contains (members trial.next) a × (Contains (members trial.state) a → ⊥)
+  new_only a there =
+      let l = some_levels in
+      let new = (kept_is (members trial.state) (members trial.begun) a).0 there in
+      (((is.next_is l.0 l.1).exact a).1 (inl ((is.begun_are l.0 l.1 a).0 new.0)), new.1)

@@ -1,5 +1,6 @@
-ghost use Rattle.std.specs.Prelude.{◌≡◌, ◌++◌, [], IfOk, OnErr, OnOk, MatchOption, None, length, take, not, false};
+ghost use Rattle.std.specs.Prelude.{◌≡◌, ◌⊎◌, ◌++◌, [], Contains, IfOk, OnErr, OnOk, MatchOption, None, length, take, not, false};
 ghost use Rattle.std.specs.List.{filter};
+ghost use Rattle.lps_terms.specs.declared.atom.Atom.{Atom as Fact};
 ghost use Rattle.lps_terms.specs.declared.text.Text.{Text};
 ghost use Rattle.lps_facts.specs.Facts.{IsLater, is_among, members, with_effects, with_facts};
 ghost use Rattle.lps_causal.specs.Names.{AreEvents, AreFluents};
@@ -98,6 +99,17 @@ impl Trial {
         ensures { result.now ≡ self.now.events }
     {
         self.events.as_slice()
+    }
+
+    /// Copies of the facts of the state after the events that are not in the state before.
+    pub fn begun(&self, alloc: Global, theory: &Theory) -> Result<Vec<Atom>, AllocError>
+        requires trial { IsTrial theory.now self.now }
+        ensures all { IfOk result (λ begun. (a : Fact) → Contains (members self.now.next) a → Contains (members self.now.state) a ⊎ Contains begun.items a) }
+        ensures only { IfOk result (λ begun. (a : Fact) → Contains begun.items a → Contains (members self.now.next) a × (Contains (members self.now.state) a → ⊥)) }
+    {
+        theory.lawful();
+        let begun = self.begun.sorted(alloc)?;
+        others(alloc, begun.as_slice(), &self.state)
     }
 
     /// This moment, to which `undo_to` leads back.

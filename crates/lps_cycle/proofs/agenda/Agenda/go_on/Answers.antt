@@ -1,11 +1,14 @@
 use Rattle.std.proofs.Common.{List, ◌≡◌, ap, sym, subst}
 use Rattle.lps_facts.specs.Facts.{members}
 use Rattle.lps_meaning.specs.declared.goal.GoalKey.{GoalKey}
-use Rattle.lps_antecedents.specs.Waiting.{StandAfter, WaitingNodes}
+use Rattle.lps_antecedents.specs.Waiting.{IsReadyWaiting, StandAfter, WaitingNodes}
 use Rattle.lps_goaltrees.specs.Pursued.{Pursued}
 use Rattle.lps_cycle.specs.Agenda.{AgendaState, AreKeysOfGoals, IsPursuedOn}
 use Rattle.lps_cycle.proofs.Agendas.{goes_on, of_goals}
 use Rattle.lps_cycle.proofs.agenda.Agenda.go_on.Goals as goal
+
+pub advance-requires-clause-ready : goal.advance-requires-clause-ready
+advance-requires-clause-ready c = subst (IsReadyWaiting c.args.program.now) (sym (ap (λ (a : AgendaState). a.waiting) c.self.view_is)) c.requires.ready.waiting
 
 pub pursue-requires-clause-keys : goal.pursue-requires-clause-keys
 pursue-requires-clause-keys c =
@@ -31,3 +34,6 @@ returns-in-Ok-clause-goes_on c =
     (subst (λ (keys : List GoalKey). StandAfter text c.args.time facts events c.args.self.now.waiting.held new.waiting.held keys) (sym c.as_slice.ensures.value)
     (subst (λ (w : WaitingNodes). StandAfter text c.args.time facts events w.held new.waiting.held c.in_ok-keys.keys.items) waited c.in_ok-keys.ensures.stands))
     (subst (λ (p : Pursued). IsPursuedOn text 100 c.args.time facts events keys p.pursuit new.goals.pursuit told.created.items told.closed.items) pursued c.in-Ok.ensures.pursues)
+
+pub returns-clause-ready : goal.returns-clause-ready
+returns-clause-ready c = record { waiting = c.undo.ensures.ready c.args.program.now c.advance.ensures.ready; goals = c.pursue.ensures.ready; settled = c.pursue.ensures.settled }

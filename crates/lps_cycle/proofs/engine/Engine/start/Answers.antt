@@ -1,4 +1,4 @@
-use Rattle.std.proofs.Common.{◌≡◌, ◌∙◌, [], List, ℕ, sym, ap, subst}
+use Rattle.std.proofs.Common.{◌≡◌, ◌∙◌, [], List, ℕ, refl, sym, ap, subst}
 use Rattle.std.specs.Prelude.{Contains}
 use Rattle.lps_terms.specs.declared.atom.Atom.{Atom}
 use Rattle.lps_terms.specs.declared.text.Text.{Text}
@@ -10,11 +10,12 @@ use Rattle.lps_model.specs.Run.{AreInitial, first_trace}
 use Rattle.lps_derivation.specs.Levels.{AreLevels}
 use Rattle.lps_facts.specs.Facts.{members}
 use Rattle.lps_meeting.specs.Stages.{IsStateOf}
-use Rattle.lps_cycle.specs.Agenda.{BeginsWith}
+use Rattle.lps_limits.specs.declared.full.Full.{Full}
+use Rattle.lps_limits.specs.Limits.{AreCounts, IsExcess}
 use Rattle.lps_cycle.specs.Engine.{Stands}
-use Rattle.lps_cycle.specs.Making.{failed_among}
+use Rattle.lps_cycle.specs.Making.{failed_among, sizes_of}
 use Rattle.lps_cycle.specs.Round.{RoundState}
-use Rattle.lps_cycle.proofs.Standing.{engine_with, first_of_some, stands_first}
+use Rattle.lps_cycle.proofs.Standing.{begins_here, carries_first, engine_with, first_of_some, is_full, stands_first}
 use Rattle.lps_cycle.proofs.engine.Engine.start.Goals as goal
 
 pub start-requires-clause-ground : goal.start-requires-clause-ground
@@ -40,9 +41,32 @@ returns-clause-stands c =
     let closed = c.in_ok-agenda.told.closed.items in
     let there : c.program-2.result.now ≡ c.args.text = c.program-2.ensures ∙ ap (λ (r : RoundState). r.text) c.deref-3.ensures ∙ c.in_ok-round.ensures.text in
     let same : members c.state.result.now ≡ round.facts = c.state.ensures ∙ ap (λ (r : RoundState). r.facts) c.deref-4.ensures in
+    let begins = begins_here c.args.text c.program-2.result.now round.facts (members c.state.result.now) agenda created closed there same c.in_ok-agenda.ensures.begins in
+    let carries = carries_first c.args.text c.args.prefer c.args.keep round.facts agenda created closed c.requires.free c.in_ok-round.ensures.facts begins in
+    let are : AreCounts c.in_ok-counts.counts (sizes_of round.facts agenda 0) = subst (λ (r : RoundState). AreCounts c.in_ok-counts.counts (sizes_of r.facts agenda 0)) c.deref-5.ensures c.in_ok-counts.ensures in
+    let found = c.first_exceeded.ensures (sizes_of round.facts agenda 0) are in
     let failed : c.failed_in-failed.result ≡ failed_among closed = c.failed_in-failed.ensures ∙ ap failed_among c.as_slice.ensures.value in
-    let begins = subst (λ (t : Text). BeginsWith t 100 round.facts agenda created closed) there
-    (subst (λ (fs : List Atom). BeginsWith c.program-2.result.now 100 fs agenda created closed) same c.in_ok-agenda.ensures.begins) in
-    let stands = stands_first c.args.text c.args.prefer round.facts agenda created closed c.requires c.in_ok-round.ensures.facts begins in
-    subst (λ (t : Text). Stands (engine_with t c.args.prefer round.facts 0 agenda created closed c.failed_in-failed.result) [] (first_trace round.facts)) (sym c.in_ok-round.ensures.text)
-    (subst (λ (n : ℕ). Stands (engine_with c.args.text c.args.prefer round.facts 0 agenda created closed n) [] (first_trace round.facts)) (sym failed) stands)
+    let stands = stands_first carries (subst (IsExcess c.args.keep (sizes_of round.facts agenda 0)) c.in_default.is found) in
+    subst (λ (t : Text). Stands (engine_with t c.args.prefer c.args.keep round.facts 0 agenda created closed c.failed_in-failed.result 0) [] (first_trace round.facts)) (sym c.in_ok-round.ensures.text)
+    (subst (λ (n : ℕ). Stands (engine_with c.args.text c.args.prefer c.args.keep round.facts 0 agenda created closed n 0) [] (first_trace round.facts)) (sym failed) stands)
+
+pub returns-in-Some-clause-full : goal.returns-in-Some-clause-full
+returns-in-Some-clause-full c =
+    let round = c.in_ok-round.round.value in
+    let agenda = c.in_ok-agenda.agenda in
+    let created = c.in_ok-agenda.told.created.items in
+    let closed = c.in_ok-agenda.told.closed.items in
+    let there : c.program-2.result.now ≡ c.args.text = c.program-2.ensures ∙ ap (λ (r : RoundState). r.text) c.deref-3.ensures ∙ c.in_ok-round.ensures.text in
+    let same : members c.state.result.now ≡ round.facts = c.state.ensures ∙ ap (λ (r : RoundState). r.facts) c.deref-4.ensures in
+    let begins = begins_here c.args.text c.program-2.result.now round.facts (members c.state.result.now) agenda created closed there same c.in_ok-agenda.ensures.begins in
+    let carries = carries_first c.args.text c.args.prefer c.args.keep round.facts agenda created closed c.requires.free c.in_ok-round.ensures.facts begins in
+    let are : AreCounts c.in_ok-counts.counts (sizes_of round.facts agenda 0) = subst (λ (r : RoundState). AreCounts c.in_ok-counts.counts (sizes_of r.facts agenda 0)) c.deref-5.ensures c.in_ok-counts.ensures in
+    let found = c.first_exceeded.ensures (sizes_of round.facts agenda 0) are in
+    let full : Full = record { limit = c.in-Some.limit; cycle = 0; symbols = c.in-Some.symbols; tried = c.none-tried.result } in
+    record {
+      facts = round.facts;
+      initial = c.in_ok-round.ensures.facts;
+      cycle = refl;
+      tried = c.none-tried.ensures;
+      is = is_full carries full (subst (IsExcess c.args.keep (sizes_of round.facts agenda 0)) c.in-Some.is found);
+    }

@@ -15,7 +15,7 @@ pub invariant_of-self : goal.invariant_of-self
 invariant_of-self c =
     let inside = c.self.inside in
     let text : Text = inside.theory in
-    let goals = c.args.goals.now in
+    let goals = c.args.goals.now.pursuit.goals in
     let candidates = c.in_ok-self-inside.field-0 in
     let none : inside.picks.items ≡ [] = ap (λ (r : RoundState). r.picks) c.self.view_is ∙ c.requires.picks in
     let are : AreAsked text c.args.time goals candidates = subst (λ (t : Text). AreAsked t c.args.time goals candidates) c.text.ensures c.in_ok-self-inside.ensures in
@@ -28,7 +28,7 @@ invariant_of-self c =
 pub returns-clause-proposers : goal.returns-clause-proposers
 returns-clause-proposers c =
     let inside = c.self.inside in
-    let goals = c.args.goals.now in
+    let goals = c.args.goals.now.pursuit.goals in
     let candidates = c.in_ok-self-inside.field-0 in
     let are = subst (λ (t : Text). AreAsked t c.args.time goals candidates) c.text.ensures c.in_ok-self-inside.ensures in
     subst (λ (r : RoundState). AreProposers r.text c.args.time goals (proposers_of candidates)) c.self.view_is (asked_proposers inside.theory c.args.time goals candidates are)

@@ -27,6 +27,6 @@ pub returns-clause-told : goal.returns-clause-told
 returns-clause-told g c = λ stream start source told.
     let running = c.args.self.now in
     let block = c.in_ok-block.block.items in
-    let made = begun running stream block c.none.result c.requires.empty c.requires.oldest c.requires.stands c.none.ensures c.in_ok-block.ensures in
+    let made = begun running stream block c.none.result c.requires.empty c.requires.oldest c.requires.keeps c.requires.stands c.none.ensures c.in_ok-block.ensures in
     block_printed running.engine.text running stream (ended stream) [] block c.as_slice.result.now start (g.D.Desk.printed c.args.desk.now) (g.D.Desk.printed c.print.new.desk) source
     _ _ c.print.result made refl c.as_slice.ensures.value (told ∙ ap Some (sym (append-nil start))) c.print.ensures.all c.print.ensures.front c.print.ensures.cause
