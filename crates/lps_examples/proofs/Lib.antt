@@ -1,8 +1,16 @@
 mod BegunAnew
+mod ConflictReports
+mod ConflictRuns
+mod ConflictTraces
 mod Deadline
 mod Depth
+mod Derivations
+mod DueNodes
+mod DueRules
 mod ExampleWalks
 mod Fire
+mod FirstOffer
+mod KeptSymbols
 mod Nesting
 mod NodeExample
 mod OneAfterOther
@@ -13,4 +21,3 @@ mod ParcelOffice
 mod RejectExample
 mod StateExamples
 mod Waiting
-mod Derivations

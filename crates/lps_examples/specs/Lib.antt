@@ -1,2 +1,5 @@
 pub mod Examples
 pub mod Derivations
+pub mod Conflicts
+pub mod Kept
+pub mod Offers
