@@ -1,27 +1,33 @@
 #!/usr/bin/env python3
 """Measures a shop: orders that are shipped while there is stock, noted, or dropped when they are late.
 
-Usage: bench/shop.py [PROGRAM]    the program as built, by default that of crates/lps_prog
+Usage: bench/shop.py [PROGRAM] [--beside "NAME: COMMAND"]..
+           the program as built, by default that of crates/lps_prog, and beside it others that do the same: each is given a seed and
+           a number of cycles as last words, and prints in its last line `goals N`, `solved N`, `failed N` and `picks N` among others
        bench/shop.py --stream SEED CYCLES    prints the stream that is drawn from this seed, and runs nothing
        bench/shop.py --text    prints the text
 
 A cycle brings 0 to 3 events: one in four supplies an item, each other one is a customer's order of an item. Orders wait for stock, and
-for each other, so that a dozen goals or more are pursued at once. Each line is the best of three runs, the start of the program and the
-reading of the text included. Where a run ends, the goals that its report has as solved, failed and still open are counted once. This is
-no test: nothing is compared with a bar.
+for each other, so that a dozen goals or more are pursued at once. Each line is the best of three runs, the start of a program and the
+reading of the text included. Where a run ends, the goals that its report has as solved, failed and still open are counted once, and
+where another program counts others, this is told. This is no test: nothing is compared with a bar.
 """
 
+import argparse
 import os
+import re
+import shlex
 import subprocess
 import sys
 import tempfile
 from collections import Counter
 from pathlib import Path
 
-from measure import best, program
+from measure import RUNS, TOP
 
 ITEMS = 8
 CUSTOMERS = 1_000
+COUNTS = {"goals": "goal", "picks": "do", "solved": "solved", "failed": "failed"}
 
 
 def text():
@@ -67,12 +73,51 @@ def stream(seed, cycles):
         yield f"{cycle}: {', '.join(events)}.\n"
 
 
-def ended(path, events):
-    """The status of a run, and how many lines of its report begin with each word."""
-    with open(events) as source:
-        process = subprocess.Popen([program("lps_prog"), "run", path], stdin=source, stdout=subprocess.PIPE, text=True)
-        words = Counter(line.split()[0] for line in process.stdout)
-    return process.wait(), words
+def counted_in_report(out):
+    words = Counter(line.split()[0] for line in out)
+    return {name: words[word] for name, word in COUNTS.items()}
+
+
+def counted_in_summary(out):
+    last = out.read().rstrip().rsplit("\n", 1)[-1]
+    return {name: int(number) for name, number in re.findall(r"(\w+) (\d+)", last) if name in COUNTS}
+
+
+def run(words, source, count):
+    """What a run prints, counted; and in other runs its processor seconds and its peak memory in MiB."""
+    with open(source) as events:
+        process = subprocess.Popen(words, stdin=events, stdout=subprocess.PIPE, stderr=subprocess.DEVNULL, text=True)
+        counts = count(process.stdout)
+        process.wait()
+    took = []
+    for _ in range(RUNS):
+        with open(source) as events:
+            process = subprocess.Popen(words, stdin=events, stdout=subprocess.DEVNULL, stderr=subprocess.DEVNULL)
+            _, _, used = os.wait4(process.pid, 0)
+        took.append((used.ru_utime + used.ru_stime, used.ru_maxrss / 1024))
+    return counts, min(seconds for seconds, _ in took), max(memory for _, memory in took)
+
+
+def show(name, seed, cycles, counts, seconds, memory):
+    numbers = "".join(f"{counts.get(count, '?'):<8}" for count in COUNTS)
+    print(f"{name:<12} {seed:<5} {cycles:<8} {seconds:<8.3f} {seconds / cycles * 1e6:<9.2f} {memory:<9.1f} {numbers}".rstrip(), flush=True)
+
+
+def measure(program, others, sizes):
+    with tempfile.TemporaryDirectory() as folder:
+        path, events = os.path.join(folder, "text"), os.path.join(folder, "stream")
+        Path(path).write_text(text())
+        print("program      seed  cycles   seconds  us/cycle  peak MiB  goals   picks   solved  failed")
+        for seed, cycles in sizes:
+            with open(events, "w") as out:
+                out.writelines(stream(seed, cycles))
+            ours, *took = run([program, "run", path], events, counted_in_report)
+            show("lps", seed, cycles, ours, *took)
+            for name, command in others:
+                counts, *took = run([*command, str(seed), str(cycles)], os.devnull, counted_in_summary)
+                show(name, seed, cycles, counts, *took)
+                if counts != ours:
+                    print(f"{name} counts otherwise than lps")
 
 
 def main():
@@ -82,20 +127,12 @@ def main():
     if sys.argv[1:2] == ["--stream"]:
         sys.stdout.writelines(stream(int(sys.argv[2]), int(sys.argv[3])))
         return
-    with tempfile.TemporaryDirectory() as folder:
-        path, events = os.path.join(folder, "text"), os.path.join(folder, "stream")
-        Path(path).write_text(text())
-        print("seed  cycles   seconds  cycles/s  us/cycle  peak MiB  goals   picks   solved  failed")
-        for seed in (0, 1):
-            for cycles in (1_000, 10_000):
-                with open(events, "w") as out:
-                    out.writelines(stream(seed, cycles))
-                status, words = ended(path, events)
-                seconds, memory = best(["run", path], events, status)
-                print(
-                    f"{seed:<5} {cycles:<8} {seconds:<8.3f} {cycles / seconds:<9.0f} {seconds / cycles * 1e6:<9.2f} {memory:<9.1f} "
-                    f"{words['goal']:<7} {words['do']:<7} {words['solved']:<7} {words['failed']}"
-                )
+    words = argparse.ArgumentParser(usage=__doc__.split("\n\n")[1])
+    words.add_argument("program", nargs="?", default=str(TOP / "crates/lps_prog/out/lps_prog"))
+    words.add_argument("--beside", action="append", default=[])
+    asked = words.parse_args()
+    others = [(name, shlex.split(command)) for name, command in (each.split(":", 1) for each in asked.beside)]
+    measure(asked.program, others, [(0, 1_000), (0, 10_000), (0, 100_000), (1, 1_000)])
 
 
 main()

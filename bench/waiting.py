@@ -3,8 +3,8 @@
 
 Usage: bench/waiting.py [PROGRAM]    the program as built, by default that of crates/lps_prog
 
-The first cycle begins so many instances, and each cycle after it has one event, which makes a goal of one of them and an action for it.
-A line is the best of three runs, without the run that ends after the first cycle. This is no test: nothing is compared with a bar.
+The first cycles begin so many instances, and each cycle after them has one event, which makes a goal of one of them and an action for
+it. A line is the best of three runs, without the run that ends before these cycles. This is no test: nothing is compared with a bar.
 """
 
 import os
@@ -17,14 +17,18 @@ TEXT = """event begin/1, end/1.
 action act/1.
 if begin(X) from T1 to T2, end(X) from T3 to T4 then act(X) from T4 to T5.
 """
-CYCLES = 100
+BATCH = 1_000
+CYCLES = 1_000
 
 
 def stream(waiting, cycles):
-    """The lines of the first cycle, and of so many more."""
-    yield f"1: {', '.join(f'begin(k{number})' for number in range(waiting))}.\n"
-    for cycle in range(2, cycles + 2):
-        yield f"{cycle}: end(k{cycle % waiting}).\n"
+    """The lines of the cycles that begin so many instances, and of so many more."""
+    cycle = 1
+    for first in range(0, waiting, BATCH):
+        yield f"{cycle}: {', '.join(f'begin(k{number})' for number in range(first, min(first + BATCH, waiting)))}.\n"
+        cycle += 1
+    for each in range(cycles):
+        yield f"{cycle + each}: end(k{each % waiting}).\n"
 
 
 def main():
@@ -32,7 +36,7 @@ def main():
         path, events = os.path.join(folder, "text"), os.path.join(folder, "stream")
         Path(path).write_text(TEXT)
         print("waiting  us/cycle  peak MiB")
-        for waiting in (10, 100, 1_000):
+        for waiting in (10, 1_000, 100_000):
             took = []
             for cycles in (0, CYCLES):
                 Path(events).write_text("".join(stream(waiting, cycles)))
